@@ -1,0 +1,4 @@
+pub mod Naming
+pub mod Octets
+pub mod Stepping
+pub mod Values

@@ -1,0 +1,10 @@
+// A counting Bloom filter of names, and the summary that is made of it.
+mod counters;
+mod receipt;
+mod size;
+mod summary;
+
+pub use counters::CountingFilter;
+pub use receipt::Receipt;
+pub use size::FilterSize;
+pub use summary::Summary;
