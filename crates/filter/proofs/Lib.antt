@@ -1,3 +1,4 @@
+pub mod Keeping
 pub mod Naming
 pub mod Octets
 pub mod Stepping

@@ -2,14 +2,16 @@
 use mathlib.Core.Path.{_≡_, refl, ap, sym, _∙_}
 use mathlib.Core.Bool.{Bool, true, false, cond, not}
 use mathlib.Core.List.{List, [], _∷_}
-use Prim.Native.Nat.{ℕ, zero, suc, _+_, _*_, _/_, _%_, _^_, _<_, _≤_}
+use Prim.Native.Nat.{ℕ, zero, suc, _+_, _-_, _*_, _/_, _%_, _^_, _<_, _≤_}
 use native.Mathlib.Nat.{div-one, div-div-eq-div-mul, pow-succ'}
 use native.Mathlib.Omega.{arith}
 use lib.Bits.{bitXor, xor-lt}
 use lib.Count.{ones}
 use lib.Dec.{eqb, ltb}
-use lib.ListN.{length, getD}
-use Rattle.std.proofs.shelf.Lists.{ext-getD}
+use lib.ListN.{length, getD, drop, length-drop}
+use lib.Pow.{pow-mono}
+use mir.Val.{boolByte}
+use Rattle.std.proofs.shelf.Lists.{ext-getD, at-drop-more}
 use Rattle.std.proofs.shelf.Ways.{tells}
 use Rattle.filter.specs.Summaries.{has-value, bit, differs, tally}
 use Rattle.filter.proofs.Values.{tally-same, tally-add, ones-tally, same-values, xor-value}
@@ -83,3 +85,26 @@ packed-value (c ∷ cs) (suc k) h =
     ∙ sym (div-div-eq-div-mul (packed (c ∷ cs)) 2 (2 ^ k))
     ∙ ap (λ q. q / 2 ^ k) (doubled-half (packed cs) (ltb 0 c)))
     ∙ packed-value cs k (omega arith)
+
+-- a flag as the code has it
+pub flag-is : (b : Bool) → (boolByte b ≡ cond b 1 0) × (boolByte b < 2)
+flag-is true = (refl, omega arith)
+flag-is false = (refl, omega arith)
+
+-- eight counters, taken from the last on: one more, and the room that it needs
+module _ (cs : List ℕ) (eight : length cs ≡ 8) (i : ℕ) (more : i < 8) where
+  pub packed-more : packed (drop (8 - (i + 1)) cs) ≡ 2 * packed (drop (8 - i) cs) + cond (ltb 0 (getD cs (7 - i) 0)) 1 0
+  packed-more =
+      let here : 8 - (i + 1) ≡ 7 - i = omega arith in
+      let next : 7 - i + 1 ≡ 8 - i = omega arith in
+      let within : 7 - i < length cs = omega arith in
+      ap (λ n. packed (drop n cs)) here
+      ∙ at-drop-more packed cs (7 - i) 0 within
+      ∙ ap (λ n. 2 * packed (drop n cs) + cond (ltb 0 (getD cs (7 - i) 0)) 1 0) next
+
+  pub packed-room : packed (drop (8 - i) cs) < 128
+  packed-room =
+      let below = packed-lt (drop (8 - i) cs) in
+      let long : length (drop (8 - i) cs) ≡ i = let e = length-drop (8 - i) cs in omega arith in
+      let most : 2 ^ i ≤ 2 ^ 7 = pow-mono {j = 7} (omega arith) in
+      omega (arith, ap (λ n. 2 ^ n) long)

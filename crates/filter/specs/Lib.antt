@@ -1,3 +1,4 @@
 pub mod Positions
 pub mod Counters
 pub mod Summaries
+pub mod Laws

@@ -2,6 +2,8 @@
 ghost use Prim.Native.Nat.{_≤_, _%_};
 ghost use mathlib.Core.Path.{_≡_};
 
+mod methods;
+
 // A multiple of 8 from 64 to 65,536.
 #[derive(Clone, Copy, PartialEq, Eq, Debug)]
 pub struct FilterSize {
@@ -11,4 +13,6 @@ pub struct FilterSize {
     ghost eights: { positions % 8 ≡ 0 },
 }
 
-pub mod methods;
+// Two sizes differ where they must not.
+#[derive(Clone, Copy, PartialEq, Eq, Debug)]
+pub struct OtherSize;

@@ -1,13 +1,14 @@
 // Counters raised, lowered and read.
-ghost use Prim.Native.Nat.{ℕ, _≤_, _<_};
+ghost use Prim.Native.Nat.{ℕ, _+_, _*_, _≤_, _<_};
 ghost use mathlib.Core.Path.{_≡_};
 ghost use mathlib.Core.Bool.{Bool, cond, false};
-ghost use lib.Dec.{eqb};
+ghost use lib.Dec.{eqb, ltb};
 ghost use lib.ListN.{length, getD, replicate};
 ghost use Rattle.std.specs.Of.Vec.{vec-len, vec-items};
 ghost use Rattle.std.specs.Options.{Cases};
 ghost use Rattle.std.specs.Vec.{made};
 ghost use Rattle.filter.specs.Counters.{raised, lowered, Issued, Spent};
+ghost use Rattle.filter.specs.Summaries.{has-value};
 use super::CountingFilter;
 use crate::receipt::Receipt;
 use crate::size::FilterSize;
@@ -92,4 +93,27 @@ impl CountingFilter {
             self.lower_at(receipt.positions[place], again);
         }
     }
+
+    // One octet of the summary: a bit is 1 exactly when its counter is above 0. It is 0 past the last octet.
+    pub fn octet(&self, at: usize) -> u8
+        ensures { λ r. ⌜ ((k : ℕ) → k < 8 → has-value r k ≡ ltb 0 (getD (vec-items (now (self .entry) .counters)) (8 * at + k) 0)) ⌝ }
+    {
+        if at >= self.size.octets() {
+            return 0;
+        }
+        let counters = self.counters.as_slice();
+        pack(&counters[8 * at..8 * at + 8])
+    }
+}
+
+// Eight counters as an octet, the first with the value 1.
+fn pack(counters: &[u8]) -> u8
+    requires { ⌜ length (now counters) ≡ 8 ⌝ }
+    ensures { λ r. ⌜ ((k : ℕ) → k < 8 → has-value r k ≡ ltb 0 (getD (now (counters .entry)) k 0)) ⌝ }
+{
+    let mut octet = 0;
+    for i in 0..8 {
+        octet = 2 * octet + u8::from(counters[7 - i] > 0);
+    }
+    octet
 }

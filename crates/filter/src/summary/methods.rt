@@ -4,10 +4,13 @@ ghost use mathlib.Core.Path.{_≡_};
 ghost use lib.ListN.{length, getD, replicate};
 ghost use Rattle.std.specs.Of.Vec.{vec-len, vec-items};
 ghost use Rattle.std.specs.Options.{Cases};
+ghost use Rattle.std.specs.Results.{Cases as ByOk};
 ghost use Rattle.std.specs.Vec.{made};
-ghost use Rattle.filter.specs.Summaries.{bit, present, differs, tally};
+ghost use Rattle.filter.specs.Summaries.{bit, present, differs, tally, Summarizes};
 use super::Summary;
+use crate::counters::CountingFilter;
 use crate::receipt::Receipt;
+use crate::size::OtherSize;
 use crate::size::FilterSize;
 use std::alloc::AllocError;
 use std::alloc::Global;
@@ -82,5 +85,19 @@ impl Summary {
             count += (self.octets[i] ^ other.octets[i]).count_ones();
         }
         Some(count)
+    }
+
+    // Becomes the summary of a filter: a bit is 1 exactly when its counter is above 0. Refused where the sizes differ.
+    pub fn summarize(&mut self, filter: &CountingFilter) -> Result<(), OtherSize>
+        ensures size { λ _. ⌜ now (self .exit) .size ≡ now (self .entry) .size ⌝ }
+        ensures octets { λ r. ⌜ ByOk r (λ _. Summarizes (vec-items (now (filter .entry) .counters)) (vec-items (now (self .exit) .octets))) (λ _. (now (filter .entry) .size .positions ≡ now (self .entry) .size .positions → ⊥) × (now (self .exit) ≡ now (self .entry))) ⌝ }
+    {
+        if filter.size().positions() != self.size.positions {
+            return Err(OtherSize);
+        }
+        for i in 0..self.octets.len() {
+            self.octets[i] = filter.octet(i);
+        }
+        Ok(())
     }
 }
