@@ -6,6 +6,17 @@ ghost use lib.ListN.{length};
 ghost use denote.Ref.{now};
 ghost use Rattle.std.specs.shelf.Lists.{All};
 
+pub mod exports;
+mod fnv1a;
+mod rfc1321;
+#[cfg(test)]
+mod tests;
+
+pub use fnv1a::Fnv;
+pub use fnv1a::FnvDigest;
+pub use rfc1321::Md5;
+pub use rfc1321::Md5Digest;
+
 // A digest, by the words that it gives each name.
 pub trait Digest {
     // the words of a name, from its octets

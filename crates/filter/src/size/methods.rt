@@ -27,6 +27,6 @@ impl FilterSize {
     pub fn octets(self) -> usize
         ensures { λ r. ⌜ r ≡ self .positions / 8 ⌝ }
     {
-        self.positions as usize / 8
+        (self.positions / 8) as usize
     }
 }

@@ -1,0 +1,4 @@
+pub mod Blocks
+pub mod Padding
+pub mod Steps
+pub mod Vectors
