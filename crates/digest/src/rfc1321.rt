@@ -31,7 +31,7 @@ struct Padded {
     ghost fits: { len ≤ 128 },
 }
 
-// The registers after the whole blocks of some octets.
+// The registers after the whole blocks of some octets, from `r` on.
 fn process(octets: &[u8], table: &[u32], mut r: Registers) -> Registers
     requires { ⌜ now table ≡ sines ⌝ }
     ensures { λ q. ⌜ q ≡ blocks (now (octets .entry)) (length (now (octets .entry)) / 64) r ⌝ }

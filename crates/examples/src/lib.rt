@@ -4,8 +4,7 @@ ghost use Rattle.examples.specs.Worked.{Worked};
 // Each worked example holds.
 pub fn worked_examples()
     ensures { λ _. ⌜ Worked ⌝ }
-{
-}
+{}
 
 #[cfg(test)]
 mod tests;

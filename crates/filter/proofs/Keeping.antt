@@ -4,6 +4,7 @@ use mathlib.Core.Path.{_≡_, refl, sym, ap, subst, _∙_}
 use mathlib.Core.List.{List, [], _∷_, _++_}
 use mathlib.Core.Bool.{Bool, true, false, cond, _||_, _&&_}
 use mathlib.Core.Logic.{_⊎_, inl, inr}
+use native.Mathlib.Nat.{mod-lt}
 use native.Mathlib.Omega.{arith}
 use lib.Dec.{leb, ltb, eqb}
 use lib.ListN.{length, getD, replicate, length-replicate}
@@ -11,11 +12,15 @@ use Rattle.std.specs.shelf.Lists.{All, Has}
 use Rattle.std.proofs.shelf.Elements.{all-getD}
 use Rattle.std.proofs.shelf.Tests.{lt-ltb, eq-eqb, or-right, and-from}
 use Rattle.std.proofs.shelf.Ways.{tells}
-use Rattle.filter.specs.Positions.{names}
+use Rattle.filter.specs.Positions.{positions, names}
 use Rattle.filter.specs.Counters.{raised, lowered, Issued, Spent}
 use Rattle.filter.specs.Summaries.{bit, present, Summarizes}
-use Rattle.filter.specs.Laws.{naming, Kept, begun, issued, spent, Within, Counters-count, Below-fifteen-counts, Issued-is-present, Outstanding-is-present}
+use Rattle.filter.specs.Laws.{naming, Kept, begun, issued, spent, Within, Positions-within, Counters-count, Below-fifteen-counts, Issued-is-present, Outstanding-is-present}
 use Rattle.filter.proofs.Stepping.{getD-zeros}
+
+pub within : Positions-within
+within m [] h = tt
+within m (w ∷ ws) h = (mod-lt w h, within m ws h)
 
 -- the counter of a position that n receipts name now, and of which most did at one time
 abbrev counter : ℕ → ℕ → ℕ

@@ -34,8 +34,8 @@ module _ (step : Bool → ℕ → ℕ) (skip : (x : ℕ) → step false x ≡ x)
   one-more : (named : ℕ → Bool) (at p x : ℕ) → step (cond (named at) false (eqb at p)) (step (named p) x) ≡ step (named p || eqb at p) x
   one-more named at p x =
       elim (eqb-tells at p) [
-        inl h ↦ (λ i. step (cond (named (h .1 i)) false (h .0 i)) (step (named p) x)) ∙ hit (named p) x ∙ (λ i. step (named p || sym (h .0) i) x)
-      | inr h ↦ (λ i. step (cond (named at) false (h .0 i)) (step (named p) x)) ∙ miss (named p) (named at) x ∙ (λ i. step (named p || sym (h .0) i) x)
+        | inl h ↦ (λ i. step (cond (named (h .1 i)) false (h .0 i)) (step (named p) x)) ∙ hit (named p) x ∙ (λ i. step (named p || sym (h .0) i) x)
+        | inr h ↦ (λ i. step (cond (named at) false (h .0 i)) (step (named p) x)) ∙ miss (named p) (named at) x ∙ (λ i. step (named p || sym (h .0) i) x)
       ]
 
   pub none-yet : (ps cs : List ℕ) → Stepped step (take 0 ps) cs cs
@@ -49,12 +49,12 @@ module _ (step : Bool → ℕ → ℕ) (skip : (x : ℕ) → step false x ≡ x)
   stepped-more ps i {before} {between} {after} h s long each = record {
     long = long ∙ s .long;
     each = λ p below.
-    let inner : p < length between = let e = s .long in omega arith in
-    each p inner
-    ∙ ap (step (cond (names (take i ps) (getD ps i 0)) false (eqb (getD ps i 0) p))) (s .each p below)
-    ∙ one-more (names (take i ps)) (getD ps i 0) p (getD before p 0)
-    ∙ ap (λ b. step b (getD before p 0)) (sym (names-more ps i p h))
-    }
+        let inner : p < length between = let e = s .long in omega arith in
+        each p inner
+        ∙ ap (step (cond (names (take i ps) (getD ps i 0)) false (eqb (getD ps i 0) p))) (s .each p below)
+        ∙ one-more (names (take i ps)) (getD ps i 0) p (getD before p 0)
+        ∙ ap (λ b. step b (getD before p 0)) (sym (names-more ps i p h));
+  }
 
   -- all places are behind
   pub stepped-all : (ps : List ℕ) (i : ℕ) {before after : List ℕ} → length ps ≤ i → Stepped step (take i ps) before after → Stepped step ps before after

@@ -6,7 +6,7 @@ use mathlib.Core.Bool.{true, cond}
 use lib.Dec.{leb}
 use lib.ListN.{length, getD, replicate}
 use Rattle.std.specs.shelf.Lists.{All, Has}
-use Rattle.filter.specs.Positions.{names}
+use Rattle.filter.specs.Positions.{positions, names}
 use Rattle.filter.specs.Counters.{Issued, Spent}
 use Rattle.filter.specs.Summaries.{bit, present, Summarizes}
 
@@ -27,6 +27,10 @@ pub data Kept (m : ℕ) : List (List ℕ) → (ℕ → ℕ) → List ℕ → Typ
 -- every position is one of the m
 abbrev pub Within : ℕ → List ℕ → Type 0
 Within m ps = All (λ p. p < m) ps
+
+-- the positions of a name are among the m
+abbrev pub Positions-within : Type 0
+Positions-within = (m : ℕ) (words : List ℕ) → 0 < m → Within m (positions m words)
 
 -- a counter is 15 where 15 receipts ever named its position together, and otherwise the number of receipts that do now
 abbrev pub Counters-count : Type 0
@@ -53,6 +57,7 @@ Bits-determine = (a b : List ℕ) → length a ≡ length b → ((i : ℕ) → g
     → ((p : ℕ) → p < 8 * length a → bit a p ≡ bit b p) → a ≡ b
 
 pub record Laws : Type 0 where
+  pub within : Positions-within
   pub counts : Counters-count
   pub below-fifteen : Below-fifteen-counts
   pub issued-present : Issued-is-present

@@ -4,5 +4,4 @@ ghost use Rattle.filter.specs.Laws.{Laws as FilterLaws};
 // The laws of issuing and spending receipts, of the counters and of the summary.
 pub fn filter_laws()
     ensures { λ _. ⌜ FilterLaws ⌝ }
-{
-}
+{}

@@ -91,7 +91,7 @@ pub struct Block<'m, 't> {
     ghost known: { held table ≡ sines },
 }
 
-// 'a = b + ((a + f + X[k] + T[i]) <<< s)', and the registers change places.
+// a = b + ((a + f + X[k] + T[i]) <<< s), and the registers change places.
 fn turn(r: Registers, f: u32, x: u32, t: u32, s: u32) -> Registers
     requires { ⌜ 0 < s ⌝ ∗ ⌜ s < 32 ⌝ }
     ensures { λ q. ⌜ q ≡ turned r f x t s ⌝ }

@@ -10,8 +10,8 @@ ghost use Rattle.filter.specs.Summaries.{bit, present, differs, tally, Summari
 use super::Summary;
 use crate::counters::CountingFilter;
 use crate::receipt::Receipt;
-use crate::size::OtherSize;
 use crate::size::FilterSize;
+use crate::size::OtherSize;
 use std::alloc::AllocError;
 use std::alloc::Global;
 

@@ -1,5 +1,6 @@
 use mathlib.Core.Path.{_≡_, sym, ap, _∙_}
 use mathlib.Core.List.{_∷_, [], _++_}
+use Prim.Native.Nat.{_/_, _%_, _^_}
 use native.Mathlib.Omega.{arith}
 use lib.ListN.{take, getD}
 use Rattle.std.proofs.shelf.Lists.{take-all}
@@ -15,8 +16,12 @@ loop-x-again c =
 
 pub returns : need.returns
 returns c =
-    let whole = take-all (c .loop-x .x-index) (c .args .name .now) (omega arith) in
-    let more = folded-push hashed offsetBasis (c .args .name .now) 1 in
-    let same : c .loop-x .h ≡ fnv1a (c .args .name .now) = c .loop-x .inv ∙ ap fnv1a whole in
-    let then : hashed (c .loop-x .h) 1 ≡ fnv1a (c .args .name .now ++ 1 ∷ []) = ap (λ h. hashed h 1) same ∙ sym more in
-    cc
+    let m = c .args .name .now in
+    let h : c .loop-x .h ≡ fnv1a m = c .loop-x .inv ∙ ap fnv1a (take-all (c .loop-x .x-index) m (omega arith)) in
+    let k : c .hash-k .result ≡ fnv1a (m ++ 1 ∷ []) =
+    c .hash-k .ensures ∙ ap (λ x. hashed x 1) h ∙ sym (folded-push hashed offsetBasis m 1) in
+    let w0 : c .high .result ≡ fnv1a m / 2 ^ 32 = c .high .ensures ∙ ap (λ x. x / 2 ^ 32) h in
+    let w1 : c .low .result ≡ fnv1a m % 2 ^ 32 = c .low .ensures ∙ ap (λ x. x % 2 ^ 32) h in
+    let w2 : c .high-2 .result ≡ fnv1a (m ++ 1 ∷ []) / 2 ^ 32 = c .high-2 .ensures ∙ ap (λ x. x / 2 ^ 32) k in
+    let w3 : c .low-2 .result ≡ fnv1a (m ++ 1 ∷ []) % 2 ^ 32 = c .low-2 .ensures ∙ ap (λ x. x % 2 ^ 32) k in
+    rw (w0, w1, w2, w3)

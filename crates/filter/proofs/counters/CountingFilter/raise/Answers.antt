@@ -14,11 +14,10 @@ loop-place-again c =
     let ps = c .args .receipt .now .positions in
     let i = c .loop-place .place in
     let cs = vec-items (c .loop-place .self .counters) in
-    let within : i < length ps = search needs in
-    (
+    let within : i < length ps = search needs in (
       c .raise-at .ensures .size ∙ c .loop-place .inv .0,
       stepped-more raised (λ x. refl) ps i within (c .loop-place .inv .1) (c .raise-at .ensures .long)
-      (λ p h. c .raise-at .ensures .each p h ∙ ap (λ b. raised (cond b false (eqb (getD ps i 0) p)) (getD cs p 0)) (c .repeats-again .ensures))
+          (λ p h. c .raise-at .ensures .each p h ∙ ap (λ b. raised (cond b false (eqb (getD ps i 0) p)) (getD cs p 0)) (c .repeats-again .ensures)),
     )
 
 pub returns : need.returns
