@@ -62,3 +62,21 @@ pub trait Refusal {
     fn fault(&self) -> Fault
         ensures { λ r. ⌜ r ≡ carries (now (self .entry)) ⌝ };
 }
+
+#[cfg(test)]
+mod tests {
+    use super::*;
+    use std::test::*;
+
+    #[test]
+    fn fault_as_text(rt: LibcRuntime) -> Result<(), Fail> {
+        let fault = Fault {
+            number: 18,
+            layer: Layer::Message,
+            house: 2,
+            version: 4294967295,
+        };
+        let text = format!(rt.alloc(), "{fault}")?;
+        check_eq(text.as_str(), "3 18 2 4294967295")
+    }
+}
