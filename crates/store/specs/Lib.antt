@@ -1,0 +1,4 @@
+pub mod Beginning
+pub mod Contents
+pub mod Faults
+pub mod Rows
