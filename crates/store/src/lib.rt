@@ -1,10 +1,17 @@
 // Stores of catalogue rows: a fixed number of places, each free or with a row, no name twice.
+mod cell;
+mod index;
+mod parts;
 mod records;
 mod refusals;
 mod row;
 mod stores;
 mod table;
 
+pub use cell::Cell;
+pub use index::HashedIndex;
+pub use parts::Probe;
+pub use parts::CELLS;
 pub use records::good_name;
 pub use records::good_worth;
 pub use refusals::StoreFault;

@@ -3,8 +3,9 @@ ghost use mathlib.Core.Path.{_≡_};
 ghost use Prim.Native.Nat.{ℕ, _<_, _≤_};
 ghost use lib.ListN.{length, getD, set};
 ghost use Rattle.std.specs.Options.{Cases as BySome};
+ghost use Rattle.std.specs.Orderings.{Decides};
 ghost use Rattle.std.specs.declared.option.Option.the-variants.{None as Nothing, Some as Just};
-ghost use Rattle.store.specs.Contents.{Content, Held, Free, Absent, Addable, Unaddable};
+ghost use Rattle.store.specs.Contents.{Content, Bears, Held, Free, Absent, Addable, Unaddable};
 ghost use Rattle.store.specs.Rows.{content, contents};
 use super::Table;
 use crate::records::good_name;
@@ -24,6 +25,14 @@ impl Table<'_> {
             }
         }
         None
+    }
+
+    // Whether a record of this name is at a place.
+    pub(crate) fn has_name(&self, place: usize, name: &[u8]) -> bool
+        ensures { λ r. ⌜ Decides r (Bears (getD (contents (now (self .entry) .rows .now)) place Nothing) (now (name .entry))) ⌝ }
+    {
+        let rows = &*self.rows;
+        place < rows.len() && rows[place].is_named(name)
     }
 
     // A free place for a record that may be added.
