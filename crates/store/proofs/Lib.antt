@@ -1,2 +1,4 @@
-pub mod Places
+pub mod Cells
+pub mod Linking
 pub mod Memory
+pub mod Places

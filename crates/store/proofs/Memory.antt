@@ -15,7 +15,7 @@ use Rattle.store.specs.declared.row.Row.{Row}
 use Rattle.std.specs.Options.{isSome}
 use Rattle.store.specs.Contents.{Content, Contents, Unique, Held, Bears, Named}
 use Rattle.store.specs.Rows.{content, contents}
-use Rattle.store.proofs.Places.{set-here, set-there, unique-none, none-some, within, some-is, none-is, named-at}
+use Rattle.store.proofs.Places.{set-here, set-there, unique-none, none-some, within, some-is, none-is, named-at, getD-replicated}
 
 pub long : (rs : List Row) → length (contents rs) ≡ length rs
 long rs = length-map rs content
@@ -44,9 +44,6 @@ module _ (rs : List Row) (n : ℕ) (all : length rs ≡ n) (none : (k : ℕ) →
       ext-getD None (contents rs) (replicate n None) (l ∙ all ∙ sym (length-replicate n None))
       (λ i h. none i (omega arith) ∙ sym (getD-replicate n i None None (omega arith)))
 
-  pub free-unique : Unique (contents rs)
-  free-unique = unique-none (contents rs) (λ k c e. none-some (sym (none k (let l = long rs in let w = within (contents rs) k c e in omega arith)) ∙ e))
-
 -- whether a row that was read is used says whether a record stands at its place
 pub is-held : (rs : List Row) (i : ℕ) (d : Row) → i < length rs → true ≡ isSome (content (getD rs i d)) → Held (contents rs) i
 is-held rs i d h e =
@@ -60,3 +57,10 @@ is-free rs i d h e = at rs i d h ∙ none-is (content (getD rs i d)) (sym e)
 -- a record of a name stands at a place
 pub is-named : (rs : List Row) (i : ℕ) (d : Row) (name : List ℕ) → i < length rs → Bears (content (getD rs i d)) name → Named (contents rs) i name
 is-named rs i d name h b = named-at (contents rs) i name (subst (λ o. Bears o name) (sym (at rs i d h)) b)
+
+-- rows that are all free
+pub none-at : (rs : List Row) (n : ℕ) → contents rs ≡ replicate n None → (k : ℕ) → getD (contents rs) k None ≡ None
+none-at rs n e k = ap (λ l. getD l k None) e ∙ getD-replicated None n k
+
+pub empty-unique : (rs : List Row) → ((k : ℕ) → getD (contents rs) k None ≡ None) → Unique (contents rs)
+empty-unique rs none = unique-none (contents rs) (λ k c e. none-some (sym (none k) ∙ e))

@@ -14,3 +14,10 @@ Unbegun Places places long = Allowed places → ⊥
 Unbegun Length places long = Allowed places × (long ≡ places → ⊥)
 Unbegun NoRow places long = ⊥
 Unbegun NotAdded places long = ⊥
+
+-- the same for an index, over lent rows and cells
+abbrev pub Unindexed : StoreFault → ℕ → ℕ → ℕ → Type 0
+Unindexed Places places long cells = Allowed places → ⊥
+Unindexed Length places long cells = Allowed places × ((long ≡ places) × (cells ≡ 2048) → ⊥)
+Unindexed NoRow places long cells = ⊥
+Unindexed NotAdded places long cells = ⊥

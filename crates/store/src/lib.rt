@@ -1,6 +1,7 @@
 // Stores of catalogue rows: a fixed number of places, each free or with a row, no name twice.
 mod cell;
 mod index;
+mod lent;
 mod parts;
 mod records;
 mod refusals;
@@ -10,8 +11,9 @@ mod table;
 
 pub use cell::Cell;
 pub use index::HashedIndex;
-pub use parts::Probe;
+pub use index::HashedIndexStore;
 pub use parts::CELLS;
+pub use parts::Probe;
 pub use records::good_name;
 pub use records::good_worth;
 pub use refusals::StoreFault;

@@ -1,6 +1,6 @@
-// A table and the cells by which its rows are found.
+// Rows, and the cells by which they are found.
 use crate::cell::Cell;
-use crate::table::Table;
+use crate::row::Row;
 
 mod methods;
 
@@ -9,9 +9,9 @@ pub use methods::Probe;
 // How many cells there are.
 pub const CELLS: usize = 2048;
 
-// A table with cells; whether they fit together is for the index to say.
+// Lent rows and lent cells; how they fit together is for the index to say.
 #[derive(Drop)]
 pub struct Parts<'a> {
-    pub(crate) table: Table<'a>,
+    pub(crate) rows: &'a mut [Row],
     pub(crate) cells: &'a mut [Cell],
 }

@@ -41,7 +41,7 @@ impl Row {
     }
 
     // Whether a record is in the row.
-    pub fn is_used(&self) -> bool
+    pub(crate) fn is_used(&self) -> bool
         ensures { λ r. ⌜ r ≡ isSome (content (now (self .entry))) ⌝ }
     {
         self.used

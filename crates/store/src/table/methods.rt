@@ -7,6 +7,7 @@ ghost use Rattle.std.specs.declared.option.Option.the-variants.{None as Nothing
 ghost use Rattle.store.specs.Beginning.{Allowed, Unbegun};
 ghost use Rattle.store.specs.Rows.{contents};
 use super::Table;
+use crate::lent::clear_rows;
 use crate::refusals::StoreFault;
 use crate::row::Row;
 
@@ -21,9 +22,7 @@ impl<'a> Table<'a> {
         if rows.len() != places {
             return Err((StoreFault::Length, rows));
         }
-        for row in rows.iter_mut() {
-            *row = Row::free();
-        }
+        clear_rows(rows);
         Ok(Table { rows })
     }
 }

@@ -3,7 +3,7 @@ use mathlib.Core.Path.{_≡_}
 use lib.ListN.{getD}
 use Rattle.std.specs.declared.option.Option.the-variants.{None}
 use Rattle.store.specs.Rows.{contents}
-use Rattle.store.proofs.table.Table.new.Given as given
+use Rattle.store.proofs.lent.clear_rows.Given as given
 
 abbrev pub Inv-loop-row : given.InvT-loop-row
 Inv-loop-row l = (k : ℕ) → k < l .row-index → getD (contents (l .rows)) k None ≡ None

@@ -8,11 +8,11 @@ use Rattle.std.specs.declared.option.Option.the-variants.{None}
 use Rattle.store.specs.Contents.{Bears}
 use Rattle.store.specs.Rows.{content, contents}
 use Rattle.store.proofs.Memory as memory
-use Rattle.store.proofs.table.Table.has_name.Needs as need
+use Rattle.store.proofs.lent.has_name.Needs as need
 
 pub returns-then-place-rows : need.returns-then-place-rows
 returns-then-place-rows c =
-    let rs = c .args .self .now .rows .now in
+    let rs = c .args .rows .now in
     let row = c .index-rows-place .result in
     let within : c .args .place < length rs = omega arith in
     let here : getD (contents rs) (c .args .place) None ≡ content row = memory.at rs (c .args .place) row within ∙ ap content (sym (c .index-rows-place .is)) in
@@ -20,9 +20,8 @@ returns-then-place-rows c =
 
 pub returns-else-place-rows : need.returns-else-place-rows
 returns-else-place-rows c =
-    let rs = c .args .self .now .rows .now in
-    let past : length rs ≤ c .args .place = omega arith in
-    (
+    let rs = c .args .rows .now in
+    let past : length rs ≤ c .args .place = omega arith in (
       λ t. let h = ltb-true (c .args .place) (length rs) t in absurd (omega arith),
       λ b. absurd (subst (λ o. Bears o (c .args .name .now)) (memory.past rs (c .args .place) past) b),
     )

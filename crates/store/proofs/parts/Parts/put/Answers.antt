@@ -1,0 +1,10 @@
+use mathlib.Core.Path.{refl, ap, _∙_}
+use lib.ListN.{set}
+use Rattle.store.specs.Rows.{contents}
+use Rattle.store.proofs.Memory as memory
+use Rattle.store.proofs.parts.Parts.put.Needs as need
+
+pub returns : need.returns
+returns c =
+    let rs = c .args .self .now .rows .now in
+    record { rows = memory.written rs (c .args .place) (c .filled .result) ∙ ap (set (contents rs) (c .args .place)) (c .filled .ensures); cells = refl }

@@ -1,0 +1,66 @@
+// A hashed index is a store.
+ghost use Rattle.std.specs.Options.{Cases as BySome};
+ghost use Rattle.store.specs.Contents.{Content, Addable, Unaddable};
+ghost use Rattle.store.specs.Rows.{contents};
+use super::HashedIndex;
+use crate::refusals::StoreFault;
+use crate::row::Row;
+use crate::stores::Store;
+
+impl HashedIndex<'_> {
+    // A free place for a record that may be added.
+    fn place_for(&self, name: &[u8], size: u32, cost: u16) -> Option<usize>
+        ensures { λ r. ⌜ BySome r (Unaddable (contents (now (self .entry) .parts .rows .now)) (record { name = now (name .entry); size = size; cost = cost })) (λ place. Addable (contents (now (self .entry) .parts .rows .now)) (record { name = now (name .entry); size = size; cost = cost }) place) ⌝ }
+    {
+        let held = self.find(name).is_some();
+        self.parts.place_for(held, name, size, cost)
+    }
+}
+
+pub impl Store for HashedIndex<'_> as HashedIndexStore {
+    ghost rows = { λ x. contents (x .parts .rows .now) };
+
+    fn len(&self) -> usize {
+        self.parts.rows.len()
+    }
+
+    fn find(&self, name: &[u8]) -> Option<usize> {
+        self.parts.search(name).place
+    }
+
+    fn add(&mut self, name: &[u8], size: u32, cost: u16) -> Result<usize, StoreFault> {
+        let Some(place) = self.place_for(name, size, cost) else {
+            return Err(StoreFault::NotAdded);
+        };
+        match self.parts.open_cell(name) {
+            Some(at) => {
+                self.parts.put(at, place, name, size, cost);
+                Ok(place)
+            }
+            None => Err(StoreFault::NotAdded),
+        }
+    }
+
+    fn remove(&mut self, place: usize) -> Result<(), StoreFault> {
+        let Some(row) = self.parts.row(place) else {
+            return Err(StoreFault::NoRow);
+        };
+        match self.parts.cell_of(row.name(), place) {
+            Some(at) => {
+                self.parts.release(at, place);
+                Ok(())
+            }
+            None => Err(StoreFault::NoRow),
+        }
+    }
+
+    fn read(&self, place: usize, row: &mut Row) -> Result<(), StoreFault> {
+        match self.parts.row(place) {
+            Some(here) => {
+                *row = here;
+                Ok(())
+            }
+            None => Err(StoreFault::NoRow),
+        }
+    }
+}
