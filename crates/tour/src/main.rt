@@ -1,58 +1,117 @@
-// A tour of the library: names from standard input, one to a line, are admitted into one filter, and what became of it is printed.
-use digest::Digest;
-use digest::Md5;
-use digest::Md5Digest;
-use filter::CountingFilter;
-use filter::FilterSize;
-use filter::Receipt;
+// A tour of the library: a small cache that admits the records on standard input and evicts what must leave.
+mod cache;
+mod plan;
+mod probing;
+
+use cache::Cache;
+use eviction::EntryClone;
+use eviction::GreedyDualSize;
+use eviction::GreedyDualSizePolicy;
+use eviction::Lru;
+use eviction::LruPolicy;
+use eviction::Policy;
+use fault::FaultDisplay;
+use fault::Refusal;
 use filter::Summary;
 use hex::hex;
+use plan::Plan;
+use plan::PolicyChoice;
+use plan::Record;
+use plan::StoreChoice;
+use probing::HashedIndexProbing;
+use probing::Probing;
+use probing::TableProbing;
+use std::alloc::Global;
 use std::error::AnyError;
-use std::io::BufRead;
-use std::io::BufReader;
+use std::io::Read;
+use store::CELLS;
+use store::Cell;
+use store::HashedIndex;
+use store::HashedIndexStore;
+use store::Row;
+use store::StoreRefusal;
+use store::Table;
+use store::TableStore;
 
-// The positions of the filter.
-const POSITIONS: u32 = 256;
-
-// What was admitted, and the filter with it.
-#[derive(Drop)]
-struct Admitted {
-    names: u64,
-    filter: CountingFilter,
-}
-
-// Admits each line that is not empty.
-fn admit(rt: &LibcRuntime, size: FilterSize) -> Result<Admitted, AnyError> {
+// Admits each record, and prints what became of it and, at the end, of the cache.
+fn serve<P: Policy + Drop, S: Probing>(
+    rt: &LibcRuntime,
+    plan: &Plan,
+    policy: P,
+    store: &mut S,
+    text: &str,
+) -> Result<(), AnyError> {
     let heap = rt.alloc();
-    let mut names: u64 = 0;
-    let mut filter = CountingFilter::new(heap, size)?;
-    for line in BufReader::new(rt.stdin()).lines(heap) {
-        let name = line?;
-        if !name.is_empty() {
-            filter.raise(&Receipt::of(&Md5, size, name.as_bytes()));
-            names = names.saturating_add(1);
+    let mut cache = Cache::new(heap, plan, policy)?;
+    for line in text.lines().skip(1) {
+        match Record::read(line) {
+            Some(record) => cache.admit(rt, store, &record)?,
+            None => println!(rt, "unread {line}")?,
         }
     }
-    Ok(Admitted { names, filter })
+    cache.show(rt, store)
+}
+
+// The cache over a plain table.
+fn over_table<P: Policy + Drop>(
+    rt: &LibcRuntime,
+    plan: &Plan,
+    policy: P,
+    text: &str,
+) -> Result<(), AnyError> {
+    let mut rows = vec![in rt.alloc(); Row::free(); plan.places]?;
+    match Table::new(plan.places, rows.as_mut_slice()) {
+        Ok(mut table) => serve(rt, plan, policy, &mut table, text),
+        Err((refusal, _)) => {
+            let fault = refusal.fault();
+            println!(rt, "refused {fault}")?;
+            Ok(())
+        }
+    }
+}
+
+// The cache over a hashed index.
+fn over_index<P: Policy + Drop>(
+    rt: &LibcRuntime,
+    plan: &Plan,
+    policy: P,
+    text: &str,
+) -> Result<(), AnyError> {
+    let mut rows = vec![in rt.alloc(); Row::free(); plan.places]?;
+    let mut cells = vec![in rt.alloc(); Cell::Never; CELLS]?;
+    match HashedIndex::new(plan.places, rows.as_mut_slice(), cells.as_mut_slice()) {
+        Ok(mut index) => serve(rt, plan, policy, &mut index, text),
+        Err((refusal, _, _)) => {
+            let fault = refusal.fault();
+            println!(rt, "refused {fault}")?;
+            Ok(())
+        }
+    }
+}
+
+fn with_policy<P: Policy + Drop>(
+    rt: &LibcRuntime,
+    plan: &Plan,
+    policy: P,
+    text: &str,
+) -> Result<(), AnyError> {
+    match plan.store {
+        StoreChoice::Table => over_table(rt, plan, policy, text),
+        StoreChoice::Index => over_index(rt, plan, policy, text),
+    }
 }
 
 fn run(rt: &LibcRuntime) -> Result<(), AnyError> {
-    let heap = rt.alloc();
-    let Some(size) = FilterSize::new(POSITIONS) else {
-        return Err("a filter cannot have so many positions".into());
+    let mut text = String::new(rt.alloc());
+    rt.stdin().read_to_string(&mut text)?;
+    let text = text.as_str();
+    let Some(plan) = Plan::read(text) else {
+        return Err("the first line gives policy, store, places and capacity".into());
     };
-    let admitted = admit(rt, size)?;
-    let mut summary = Summary::new(heap, size)?;
-    if summary.summarize(&admitted.filter).is_err() {
-        return Err("the summary has another size than the filter".into());
+    match plan.policy {
+        PolicyChoice::Lru => with_policy(rt, &plan, Lru::new(), text),
+        PolicyChoice::GreedyDualSize => with_policy(rt, &plan, GreedyDualSize::new(), text),
     }
-    let names = admitted.names;
-    let octets = hex(heap, summary.octets())?;
-    let ones = summary.ones();
-    println!(rt, "names {names}")?;
-    println!(rt, "summary {octets}")?;
-    println!(rt, "ones {ones}")?;
-    Ok(())
 }
 
 fn main(rt: LibcRuntime) -> Result<(), AnyError> {

@@ -1,0 +1,3 @@
+mod Sifting
+mod Moves
+pub mod Meaning

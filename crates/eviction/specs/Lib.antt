@@ -1,0 +1,3 @@
+pub mod Policies
+pub mod Heaps
+pub mod Sifts
