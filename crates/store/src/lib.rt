@@ -1,6 +1,7 @@
 // Stores of catalogue rows: a fixed number of places, each free or with a row, no name twice.
 mod cell;
 mod index;
+mod laws;
 mod lent;
 mod parts;
 mod records;
@@ -12,6 +13,7 @@ mod table;
 pub use cell::Cell;
 pub use index::HashedIndex;
 pub use index::HashedIndexStore;
+pub use laws::search_law;
 pub use parts::CELLS;
 pub use parts::Probe;
 pub use records::good_name;
