@@ -1,7 +1,7 @@
 // Test vectors as their documents publish them: a message and its digest in hexadecimal.
 
 // The test suite of RFC 1321, appendix A.5.
-pub fn md5_vectors() -> [(&'static str, &'static str); 7] {
+pub(crate) fn md5_vectors() -> [(&'static str, &'static str); 7] {
     [
         ("", "d41d8cd98f00b204e9800998ecf8427e"),
         ("a", "0cc175b9c0f1b6a831c399e269772661"),
@@ -23,7 +23,7 @@ pub fn md5_vectors() -> [(&'static str, &'static str); 7] {
 }
 
 // Values of FNV-1a with 64 bits, as its authors publish them.
-pub fn fnv_vectors() -> [(&'static str, &'static str); 7] {
+pub(crate) fn fnv_vectors() -> [(&'static str, &'static str); 7] {
     [
         ("", "cbf29ce484222325"),
         ("a", "af63dc4c8601ec8c"),

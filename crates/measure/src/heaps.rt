@@ -25,7 +25,7 @@ fn blank(heap: Global) -> Result<Vec<Entry<Stamp>>, AllocError> {
 }
 
 // Inserts an entry for each place, and takes all out again, so many times.
-pub fn drain(heap: Global, rounds: u32) -> Result<u64, AllocError> {
+pub(crate) fn drain(heap: Global, rounds: u32) -> Result<u64, AllocError> {
     let mut entries = blank(heap)?;
     let mut queue = EvictionHeap::new();
     let mut sum: u64 = 0;
@@ -46,7 +46,7 @@ pub fn drain(heap: Global, rounds: u32) -> Result<u64, AllocError> {
 }
 
 // Gives places new ranks, one after another, and looks at the least each time.
-pub fn rerank_all(heap: Global, rounds: u32) -> Result<u64, AllocError> {
+pub(crate) fn rerank_all(heap: Global, rounds: u32) -> Result<u64, AllocError> {
     let mut entries = blank(heap)?;
     let mut queue = EvictionHeap::new();
     let mut sum: u64 = 0;

@@ -18,7 +18,7 @@ use stores::fill;
 use stores::find_all;
 
 // The places of the stores and of the heap.
-pub const PLACES: usize = 1024;
+const PLACES: usize = 1024;
 
 // Prints what a run computed, and how long it took.
 fn report(rt: &LibcRuntime, what: &str, sum: u64, start: Instant) -> Result<(), AnyError> {

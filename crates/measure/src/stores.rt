@@ -11,14 +11,14 @@ fn name_of(number: usize) -> [u8; 8] {
 }
 
 // A record for each place.
-pub fn fill<S: Store>(store: &mut S) {
+pub(crate) fn fill<S: Store>(store: &mut S) {
     for number in 0..PLACES {
         let _ = store.add(&name_of(number), 1, 1);
     }
 }
 
 // Searches for every name, held and not held, so many times; the places found, summed.
-pub fn find_all<S: Store>(store: &S, rounds: u32) -> u64 {
+pub(crate) fn find_all<S: Store>(store: &S, rounds: u32) -> u64 {
     let mut sum: u64 = 0;
     for _ in 0..rounds {
         for number in 0..2 * PLACES {

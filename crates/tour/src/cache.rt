@@ -40,7 +40,7 @@ pub struct Cache<P: Policy + Drop> {
 }
 
 impl<P: Policy + Drop> Cache<P> {
-    pub fn new(heap: Global, plan: &Plan, policy: P) -> Result<Cache<P>, AnyError> {
+    pub(crate) fn new(heap: Global, plan: &Plan, policy: P) -> Result<Cache<P>, AnyError> {
         let Some(size) = FilterSize::new(POSITIONS) else {
             return Err("a filter cannot have so many positions".into());
         };
@@ -66,7 +66,7 @@ impl<P: Policy + Drop> Cache<P> {
     }
 
     // A record that is held is used; another is admitted, once there is room for it.
-    pub fn admit<S: Probing>(
+    pub(crate) fn admit<S: Probing>(
         &mut self,
         rt: &LibcRuntime,
         store: &mut S,
@@ -167,7 +167,7 @@ impl<P: Policy + Drop> Cache<P> {
     }
 
     // Prints what is held, and the filter's record.
-    pub fn show<S: Probing>(&self, rt: &LibcRuntime, store: &S) -> Result<(), AnyError> {
+    pub(crate) fn show<S: Probing>(&self, rt: &LibcRuntime, store: &S) -> Result<(), AnyError> {
         let heap = rt.alloc();
         let mut row = Row::free();
         for place in 0..store.len() {

@@ -25,7 +25,7 @@ pub struct Plan {
 
 impl Plan {
     // Reads the first line of a text.
-    pub fn read(text: &str) -> Option<Plan> {
+    pub(crate) fn read(text: &str) -> Option<Plan> {
         let line = text.lines().next()?;
         let mut words = line.split(' ');
         let policy = match words.next()? {
@@ -58,7 +58,7 @@ pub struct Record<'t> {
 }
 
 impl<'t> Record<'t> {
-    pub fn read(line: &'t str) -> Option<Record<'t>> {
+    pub(crate) fn read(line: &'t str) -> Option<Record<'t>> {
         let mut words = line.splitn(3, ' ');
         let size = words.next()?.parse::<u32>().ok()?;
         let cost = words.next()?.parse::<u16>().ok()?;
