@@ -16,6 +16,7 @@ use store::TableStore;
 
 // Two names at whose cell the search of the index starts for both.
 const ATLAS: &[u8] = b"Atlas of the northern harbours, 1784";
+
 const SHEETS: &[u8] = b"5603 sheets of the estate map";
 
 // What every store of two places does.
