@@ -3,7 +3,7 @@ use Prim.Native.Nat.{ℕ, _+_, _%_, _<_}
 use mathlib.Core.Path.{_≡_}
 use mathlib.Core.List.{List}
 use mathlib.Core.Bool.{Bool, true, false}
-use lib.ListN.{length, getD}
+use lib.ListN.{length, getD, set}
 use Rattle.std.specs.Options.{isSome}
 use Rattle.std.specs.shelf.Lists.{countBy}
 use Rattle.std.specs.declared.option.Option.{Option}
@@ -59,3 +59,15 @@ pub record Open (cells : List Cell) (name : List ℕ) (at : ℕ) : Type 0 where
 abbrev pub Opens : List Cell → List ℕ → Option ℕ → Type 0
 Opens cells name None = (j : ℕ) → j < 2048 → taken (cell cells name j) ≡ true
 Opens cells name (Some at) = Open cells name at
+
+-- a place went into the first cell without one, on the way of the search for a name, and no other cell changed
+pub record Took (before : List Cell) (name : List ℕ) (place : ℕ) (after : List Cell) : Type 0 where
+  pub at : ℕ
+  pub first : Open before name at
+  pub after-is : after ≡ set before at (Taken place)
+
+-- the cell of a place was freed, and no other cell changed
+pub record Gave (before : List Cell) (place : ℕ) (after : List Cell) : Type 0 where
+  pub at : ℕ
+  pub here : getD before at Never ≡ Taken place
+  pub after-is : after ≡ set before at Freed

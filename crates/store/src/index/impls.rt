@@ -1,6 +1,12 @@
 // A hashed index is a store.
+ghost use mathlib.Core.Path.{_≡_};
+ghost use lib.ListN.{getD, set};
 ghost use Rattle.std.specs.Options.{Cases as BySome};
-ghost use Rattle.store.specs.Contents.{Content, Addable, Unaddable};
+ghost use Rattle.std.specs.Results.{Cases as ByOk};
+ghost use Rattle.std.specs.Vec.{made};
+ghost use Rattle.std.specs.declared.option.Option.the-variants.{None as Nothing};
+ghost use Rattle.store.specs.Contents.{Content, Held, Addable, Added, Unaddable};
+ghost use Rattle.store.specs.Indexed.{Took, Gave};
 ghost use Rattle.store.specs.Rows.{contents};
 use super::HashedIndex;
 use crate::refusals::StoreFault;
@@ -28,7 +34,11 @@ pub impl Store for HashedIndex<'_> as HashedIndexStore {
         self.parts.search(name).place
     }
 
-    fn add(&mut self, name: &[u8], size: u32, cost: u16) -> Result<usize, StoreFault> {
+    // The place goes into the first cell, on the way of the search for the name, that no place is in.
+    fn add(&mut self, name: &[u8], size: u32, cost: u16) -> Result<usize, StoreFault>
+        ensures rows { λ r. ⌜ ByOk r (λ place. Added (contents (now (self .entry) .parts .rows .now)) (record { name = now (name .entry); size = size; cost = cost }) place (contents (now (self .exit) .parts .rows .now))) (λ f. (f ≡ StoreFault.NotAdded) × Unaddable (contents (now (self .entry) .parts .rows .now)) (record { name = now (name .entry); size = size; cost = cost }) × (now (self .exit) ≡ now (self .entry))) ⌝ }
+        ensures cells { λ r. ⌜ made r (λ place. Took (now (self .entry) .parts .cells .now) (now (name .entry)) place (now (self .exit) .parts .cells .now)) ⌝ }
+    {
         let Some(place) = self.place_for(name, size, cost) else {
             return Err(StoreFault::NotAdded);
         };
@@ -41,7 +51,11 @@ pub impl Store for HashedIndex<'_> as HashedIndexStore {
         }
     }
 
-    fn remove(&mut self, place: usize) -> Result<(), StoreFault> {
+    // The cell of the place is freed.
+    fn remove(&mut self, place: usize) -> Result<(), StoreFault>
+        ensures rows { λ r. ⌜ ByOk r (λ _. Held (contents (now (self .entry) .parts .rows .now)) place × (contents (now (self .exit) .parts .rows .now) ≡ set (contents (now (self .entry) .parts .rows .now)) place Nothing)) (λ f. (f ≡ StoreFault.NoRow) × (getD (contents (now (self .entry) .parts .rows .now)) place Nothing ≡ Nothing) × (now (self .exit) ≡ now (self .entry))) ⌝ }
+        ensures cells { λ r. ⌜ made r (λ _. Gave (now (self .entry) .parts .cells .now) place (now (self .exit) .parts .cells .now)) ⌝ }
+    {
         let Some(row) = self.parts.row(place) else {
             return Err(StoreFault::NoRow);
         };
