@@ -1,4 +1,6 @@
 // Queues between houses, which may lose, double and reorder messages.
+#![tactic(auto)]
+
 mod channels;
 mod checks;
 mod cycle;

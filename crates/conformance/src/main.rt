@@ -1,4 +1,6 @@
 // Runs the published test vectors of the digests, and prints each with what came of it.
+#![tactic(auto)]
+
 mod vectors;
 
 use anyhow::anyhow;

@@ -1,4 +1,6 @@
 // Opens damaged messages: good ones are written, changed at random, and opened in every way. Prints how each refusal came out, and a digest of all answers.
+#![tactic(auto)]
+
 mod answers;
 mod catalogue;
 mod damages;

@@ -1,4 +1,6 @@
 // Digests of names: four words of 32 bits, by a function of the name's octets alone.
+#![tactic(auto)]
+
 ghost use Rattle.std.specs.Prelude.{◌≡◌, ℕ, ◌^◌, ◌<◌, List, length};
 ghost use Rattle.std.specs.List.{AllByRecursion as All};
 

@@ -1,4 +1,6 @@
 // Which record leaves a full house first: the policies that rank records, and the heap of their ranks.
+#![tactic(auto)]
+
 mod evict;
 mod greedy_dual_size;
 mod heap;

@@ -1,4 +1,6 @@
 // What every refusal carries: a number, the layer that refused, a house and a version.
+#![tactic(auto)]
+
 ghost use Rattle.std.specs.Prelude.{◌≡◌, Some};
 ghost use Rattle.fault.specs.Numbers.{layer_number, line};
 ghost use Rattle.fault.specs.declared.Fault.{Fault as Carried};

@@ -1,4 +1,6 @@
 // A counting Bloom filter of names, and the summary that is made of it.
+#![tactic(auto)]
+
 mod counters;
 mod laws;
 mod receipt;

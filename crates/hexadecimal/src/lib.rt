@@ -1,4 +1,6 @@
 // Octets as text in hexadecimal.
+#![tactic(auto)]
+
 ghost use Rattle.std.specs.Prelude.{◌≡◌, ◌<◌, IfOk, string_bytes};
 ghost use Rattle.hexadecimal.specs.Digits.{digit, hexadecimal};
 

@@ -1,4 +1,6 @@
 // Messages between houses: ICP version 2, with updates of summaries and their answers. What they say, and how each is written.
+#![tactic(auto)]
+
 mod contents;
 mod declaring;
 mod refusals;

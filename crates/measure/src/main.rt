@@ -1,4 +1,6 @@
 // Times stores and the eviction heap at 1,024 places. What was computed goes to standard output, the times to standard error.
+#![tactic(auto)]
+
 mod heaps;
 mod stores;
 

@@ -1,4 +1,6 @@
 // Messages opened by a house: what octets are read as, and in which order they are refused.
+#![tactic(auto)]
+
 mod headers;
 mod laws;
 mod numbers;

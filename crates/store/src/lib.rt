@@ -1,4 +1,6 @@
 // Stores of catalogue rows: a fixed number of places, each free or with a row, no name twice.
+#![tactic(auto)]
+
 mod cell;
 mod index;
 mod laws;

@@ -1,4 +1,6 @@
 // A tour of the library: a small cache that admits the records on standard input and evicts what must leave.
+#![tactic(auto)]
+
 mod cache;
 mod plan;
 mod probing;
