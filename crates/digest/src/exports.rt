@@ -1,4 +1,4 @@
-// The digests by a word at a time, for callers that link the library.
+// The digests by a word at a time, for callers that know no trait; `digest_c` exports these to C.
 ghost use Rattle.std.specs.Prelude.{◌≡◌, slice_index};
 ghost use Rattle.digest.specs.Fnv.{fnv_words};
 ghost use Rattle.digest.specs.Md5.{md5_words};
@@ -13,16 +13,14 @@ fn word_at(words: [u32; 4], number: usize) -> u32
 }
 
 // A word of the MD5 digest.
-#[unsafe(no_mangle)]
-pub extern "C" fn digest_md5(name: &[u8], number: usize) -> u32
+pub fn digest_md5(name: &[u8], number: usize) -> u32
     ensures { result ≡ slice_index (md5_words name.now) number }
 {
     word_at(Md5.words(name), number)
 }
 
 // A word of the FNV-1a digest.
-#[unsafe(no_mangle)]
-pub extern "C" fn digest_fnv(name: &[u8], number: usize) -> u32
+pub fn digest_fnv(name: &[u8], number: usize) -> u32
     ensures { result ≡ slice_index (fnv_words name.now) number }
 {
     word_at(Fnv.words(name), number)

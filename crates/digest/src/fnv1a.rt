@@ -1,8 +1,7 @@
 // FNV-1a of 64 bits, of a name and of the name followed by the octet 01.
 ghost use Rattle.std.specs.Prelude.{◌≡◌, ◌/◌, ◌%◌, ◌^◌, [], ◌∷◌, ◌++◌, refl};
 ghost use Rattle.digest.specs.Fnv.{hashed, fnv_words, offset_basis};
-ghost use Rattle.std.proofs.Common.{arith, lit<};
-ghost use Rattle.digest.specs.FnvDigestLemmas.{below};
+ghost use Rattle.digest.specs.Narrow.{fnv_narrow};
 
 use crate::Digest;
 
@@ -39,10 +38,7 @@ impl Digest for Fnv {
 
     ghost four = { λ name. refl };
 
-    ghost narrow = { λ name.
-        let h = below offset_basis (lit< tt) name in
-        let k = below offset_basis (lit< tt) (name ++ 1 ∷ []) in
-        (omega arith, (omega arith, (omega arith, (omega arith, tt)))) };
+    ghost narrow = { fnv_narrow };
 
     fn words(&self, name: &[u8]) -> [u32; 4] {
         let mut h = OFFSET_BASIS;

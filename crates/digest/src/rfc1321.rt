@@ -1,7 +1,7 @@
 // MD5, after RFC 1321.
 ghost use Rattle.std.specs.Prelude.{◌≡◌, ◌+◌, ◌*◌, ◌/◌, ◌%◌, ◌≤◌, ◌++◌, length, take, drop, refl};
 ghost use Rattle.digest.specs.Md5.{zeros, appended, sines, blocks, md5_words};
-ghost use Rattle.digest.specs.Md5DigestLemmas.{below};
+ghost use Rattle.digest.specs.Narrow.{md5_narrow};
 
 mod rounds;
 
@@ -79,7 +79,7 @@ impl Digest for Md5 {
 
     ghost four = { λ name. refl };
 
-    ghost narrow = { λ name. (below _ _ _ _, (below _ _ _ _, (below _ _ _ _, (below _ _ _ _, tt)))) };
+    ghost narrow = { md5_narrow };
 
     fn words(&self, name: &[u8]) -> [u32; 4] {
         let r = process(name, &SINES, INITIAL);

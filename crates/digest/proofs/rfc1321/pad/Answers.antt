@@ -10,15 +10,15 @@ returns c =
     let n = length m in
     let at = 64 * (n / 64) in
     let r = take (n - at) (drop at m) in
-    let o = c.to-le-bytes.result in
+    let o = c.to_le_bytes.result in
     let d : r ≡ drop at m = take_rest m at in
     let l : length r ≡ n % 64 = ap length d ∙ length-drop at m ∙ omega arith in
     let a : c.put.new.t ≡ r ++ drop (0 + length r) (replicate 128 0) = c.put.ensures in
-    let eight : length o ≡ 8 = ap length c.to-le-bytes.ensures in
+    let eight : length o ≡ 8 = ap length c.to_le_bytes.ensures in
     let bits : o ≡ octets 8 (8 * n % 2 ^ 64) =
-    c.to-le-bytes.ensures ∙ octets_8 (n * 8 % 2 ^ 64) ∙ ap (λ b. octets 8 (b % 2 ^ 64)) (mul_comm n 8) in
-    ap (take c.padded-len-end.result) c.put-2.ensures
-    ∙ written r o (zeros n) c.padded-len-end.result eight (omega arith) (omega arith) (set c.put.new.t (length r) 128)
+    c.to_le_bytes.ensures ∙ octets_8 (n * 8 % 2 ^ 64) ∙ ap (λ b. octets 8 (b % 2 ^ 64)) (mul_comm n 8) in
+    ap (take c.padded_len-end.result) c.put-2.ensures
+    ∙ written r o (zeros n) c.padded_len-end.result eight (omega arith) (omega arith) (set c.put.new.t (length r) 128)
     (ap (λ t. set t (length r) 128) a)
     ∙ ap (λ b. r ++ (128 ∷ (replicate (zeros n) 0 ++ b))) bits
     ∙ ap (λ p. p ++ appended n) d

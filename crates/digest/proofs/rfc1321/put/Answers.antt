@@ -9,6 +9,6 @@ returns c =
     let s = c.args.s.now in
     let at = c.args.at in
     let k : at + length s - at ≡ length s = omega arith in
-    ap (put_mid at (at + length s - at) t) c.copy-from-slice.ensures.after
+    ap (put_mid at (at + length s - at) t) c.copy_from_slice.ensures.after
     ∙ ap (λ n. take at t ++ (s ++ drop n (drop at t))) k
     ∙ ap (λ z. take at t ++ (s ++ z)) (drop-drop (length s) at t)

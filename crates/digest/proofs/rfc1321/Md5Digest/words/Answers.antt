@@ -15,8 +15,8 @@ returns c =
     ∙ ap (λ s. blocks s (length s / 64) c.process-r.result) c.pad-end.ensures
     ∙ ap (blocks t (length t / 64)) c.process-r.ensures
     ∙ sym (blocks_rest m (appended (length m)) n initial (omega arith)) in
-    let w0 : c.swap-bytes.result ≡ big_word (output q) 0 = c.swap-bytes.ensures ∙ swapped q.a in
-    let w1 : c.swap-bytes-2.result ≡ big_word (output q) 1 = c.swap-bytes-2.ensures ∙ swapped q.b in
-    let w2 : c.swap-bytes-3.result ≡ big_word (output q) 2 = c.swap-bytes-3.ensures ∙ swapped q.c in
-    let w3 : c.swap-bytes-4.result ≡ big_word (output q) 3 = c.swap-bytes-4.ensures ∙ swapped q.d in
+    let w0 : c.swap_bytes.result ≡ big_word (output q) 0 = c.swap_bytes.ensures ∙ swapped q.a in
+    let w1 : c.swap_bytes-2.result ≡ big_word (output q) 1 = c.swap_bytes-2.ensures ∙ swapped q.b in
+    let w2 : c.swap_bytes-3.result ≡ big_word (output q) 2 = c.swap_bytes-3.ensures ∙ swapped q.c in
+    let w3 : c.swap_bytes-4.result ≡ big_word (output q) 3 = c.swap_bytes-4.ensures ∙ swapped q.d in
     rw (w0, w1, w2, w3) (ap (λ r. big_words (output r)) e)
