@@ -5,8 +5,8 @@ use Rattle.icp.proofs.Changes.{length_changed}
 use Rattle.icp.proofs.Messages.{list_written}
 use Rattle.icp.proofs.declaring.put_list.Goals as goal
 
-pub put-changes-requires : goal.put-changes-requires
-put-changes-requires c =
+pub put_changes-requires : goal.put_changes-requires
+put_changes-requires c =
     let s = c.args.before.now in
     let t = c.args.after.now in
     let a = vec_items s.octets in
@@ -34,7 +34,7 @@ returns c =
     let y = ap length c.octets-2.ensures in
     let all : 8 * length c.octets-2.result.now ≡ m = omega arith in
     let sized : c.positions.result ≡ m = c.positions.ensures ∙ ap (λ z. z.positions) c.size.ensures in
-    list_written m c.args.sender c.args.version (32 + 4 * c.args.count) c.header-head.result c.args.out.now c.put-head.new.out c.put-changes.new.out a b c.args.count
+    list_written m c.args.sender c.args.version (32 + 4 * c.args.count) c.header-head.result c.args.out.now c.put_head.new.out c.put_changes.new.out a b c.args.count
     c.header-head.ensures (c.requires.2 ∙ sym (length_changed a b m)) refl
-    (c.put-head.ensures ∙ ap (λ p. begins (c.header-head.result ++ filter_fields p c.args.count) c.args.out.now) sized)
-    (c.put-changes.ensures ∙ (λ j. listed c.put-head.new.out (c.octets.ensures j) (c.octets-2.ensures j) (all j)))
+    (c.put_head.ensures ∙ ap (λ p. begins (c.header-head.result ++ filter_fields p c.args.count) c.args.out.now) sized)
+    (c.put_changes.ensures ∙ (λ j. listed c.put_head.new.out (c.octets.ensures j) (c.octets-2.ensures j) (all j)))

@@ -13,7 +13,7 @@ returns c =
     let sized : c.size-size.result.positions ≡ m = ap (λ z. z.positions) c.size-size.ensures in
     let long : n ≡ 32 + length octets = let a = s.long in let b = s.octets.ok.0 in let d = c.octets-length.ensures in omega arith in
     let positions : c.positions.result ≡ m = c.positions.ensures ∙ sized in
-    whole_written m c.args.sender c.args.version n c.header-head.result c.args.out.now c.put-head.new.out c.put.new.out octets
+    whole_written m c.args.sender c.args.version n c.header-head.result c.args.out.now c.put_head.new.out c.put.new.out octets
     c.header-head.ensures long
-    (c.put-head.ensures ∙ ap (λ p. begins (c.header-head.result ++ filter_fields p 0) c.args.out.now) positions)
-    (c.put.ensures ∙ ap (put_at c.put-head.new.out 32) c.octets.ensures)
+    (c.put_head.ensures ∙ ap (λ p. begins (c.header-head.result ++ filter_fields p 0) c.args.out.now) positions)
+    (c.put.ensures ∙ ap (put_at c.put_head.new.out 32) c.octets.ensures)

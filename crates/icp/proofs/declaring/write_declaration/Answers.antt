@@ -16,5 +16,5 @@ returns-in-Some c =
     let xs = c.args.out.now in
     let room : 32 + m / 8 ≤ length xs = let x = c.octets.ensures in let y = ap (λ z. z.positions) c.size.ensures in omega arith in (
       (λ j. refuse (ne_eqb e 4294967295 c.if-earlier-eq4294967295.false j) (LastVersion s) (refuse (le-ltb (length xs) (32 + m / 8) room j) (Output s) None)),
-      subst (λ t. Written m (cond t (changes s (e + 1) (changed a b m)) (whole s (e + 1) b)) xs c.put-list.new.out c.put-list.result) (sym c.in-Some.ensures.0) c.put-list.ensures,
+      subst (λ t. Written m (cond t (changes s (e + 1) (changed a b m)) (whole s (e + 1) b)) xs c.put_list.new.out c.put_list.result) (sym c.in-Some.ensures.0) c.put_list.ensures,
     )

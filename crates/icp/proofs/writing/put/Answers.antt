@@ -9,6 +9,6 @@ returns c =
     let ys = c.args.octets.now in
     let at = c.args.at in
     let k : at + length ys - at ≡ length ys = omega arith in
-    ap (put_mid at (at + length ys - at) xs) c.copy-from-slice.ensures.after
+    ap (put_mid at (at + length ys - at) xs) c.copy_from_slice.ensures.after
     ∙ ap (λ n. take at xs ++ (ys ++ drop n (drop at xs))) k
     ∙ ap (λ z. take at xs ++ (ys ++ z)) (drop-drop (length ys) at xs)

@@ -9,8 +9,8 @@ pub returns : goal.returns
 returns c =
     let body = c.args.body.now in
     let whole : length body - 1 - 0 ≡ length body - 1 = omega arith in
-    let good : nameable (take (length body - 1) body) ≡ c.good-name.result =
-    ap (λ n. nameable (take n body)) (sym whole) ∙ nameable_is (take (length body - 1 - 0) body) c.good-name.result c.good-name.ensures in
+    let good : nameable (take (length body - 1) body) ≡ c.good_name.result =
+    ap (λ n. nameable (take n body)) (sym whole) ∙ nameable_is (take (length body - 1 - 0) body) c.good_name.result c.good_name.ensures in
     record {
       is = sym (text_ends body c.if-n-eq0.false c.if-body-n-ne0.false ∙ ap not good);
       some = λ e. omega (arith, c.if-n-eq0.false);

@@ -5,12 +5,12 @@ use Rattle.store.proofs.Memory as memory
 use Rattle.store.proofs.Places.{within, bears_at}
 use Rattle.store.proofs.lent.place_of.Goals as goal
 
-pub returns-then-is-named : goal.returns-then-is-named
-returns-then-is-named c =
+pub returns-then-is_named : goal.returns-then-is_named
+returns-then-is_named c =
     let rs = c.args.rows.now in
     let name = c.args.name.now in
     memory.is_named rs c.loop-i.i c.index-rows-i.result name c.loop-i-test.true
-    (subst (λ r. Bears (content r) name) c.index-rows-i.is (c.if-is-named.ensures.0 refl))
+    (subst (λ r. Bears (content r) name) c.index-rows-i.is (c.if-is_named.ensures.0 refl))
 
 pub loop-i-preserved : goal.loop-i-preserved
 loop-i-preserved c =
@@ -21,7 +21,7 @@ loop-i-preserved c =
     (λ b.
     true≢false
     (sym
-    (c.if-is-named.ensures.1
+    (c.if-is_named.ensures.1
     (subst (λ o. Bears o name) (memory.at rs i c.index-rows-i.result c.loop-i-test.true ∙ ap content (sym c.index-rows-i.is)) b))))
 
 pub returns : goal.returns

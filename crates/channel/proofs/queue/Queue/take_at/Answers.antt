@@ -13,8 +13,8 @@ remove-slot-requires c =
     let within = c.requires.0 in
     omega arith
 
-pub copy-to-len-requires : goal.copy-to-len-requires
-copy-to-len-requires c =
+pub copy_to-len-requires : goal.copy_to-len-requires
+copy_to-len-requires c =
     let q = c.args.self.now in
     let count = count_is q in
     let within = c.requires.0 in
@@ -28,13 +28,13 @@ invariant-of-self c =
     let place = c.args.place in
     let slot = c.remove-slot.result in
     let without = vec_items c.remove-slot.new.self in
-    let after = vec_items c.push-reserved.new.self in
+    let after = vec_items c.push_reserved.new.self in
     let count = count_is q in
     let most = q.most in
     let within = c.requires.0 in
     let here : place < q.count = omega arith in
-    let left = moved q place slot without after here c.remove-slot.ensures.items c.push-reserved.ensures.items in (
-      measured_after q place slot without after here c.remove-slot.ensures.value c.remove-slot.ensures.items c.push-reserved.ensures.items,
+    let left = moved q place slot without after here c.remove-slot.ensures.items c.push_reserved.ensures.items in (
+      measured_after q place slot without after here c.remove-slot.ensures.value c.remove-slot.ensures.items c.push_reserved.ensures.items,
       (omega arith, (λ x w. q.fitting x (left_waited (queued q) place within x (subst (λ all. Waits all x) left w)), tt)),
     )
 
@@ -44,14 +44,14 @@ returns c =
     let place = c.args.place in
     let slot = c.remove-slot.result in
     let without = vec_items c.remove-slot.new.self in
-    let after = vec_items c.push-reserved.new.self in
+    let after = vec_items c.push_reserved.new.self in
     let count = count_is q in
     let within = c.requires.0 in
     let here : place < q.count = omega arith in (
-      c.copy-to-len.ensures.0,
+      c.copy_to-len.ensures.0,
       refl,
       record {
-        is = λ x. ap (λ l. l.octets) (at q place slot here c.remove-slot.ensures.value x) ∙ sym c.copy-to-len.ensures.1;
-        left = moved q place slot without after here c.remove-slot.ensures.items c.push-reserved.ensures.items;
+        is = λ x. ap (λ l. l.octets) (at q place slot here c.remove-slot.ensures.value x) ∙ sym c.copy_to-len.ensures.1;
+        left = moved q place slot without after here c.remove-slot.ensures.items c.push_reserved.ensures.items;
       },
     )

@@ -6,4 +6,4 @@ pub returns : goal.returns
 returns c =
     let short = c.args.self.now.short in
     let long = c.deref.ensures.len in
-    (search rules, copied _ _ _ _ _ c.copy-from-slice.ensures.after c.deref.ensures.value (omega arith))
+    (search rules, copied _ _ _ _ _ c.copy_from_slice.ensures.after c.deref.ensures.value (omega arith))

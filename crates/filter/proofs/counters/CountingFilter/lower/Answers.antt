@@ -9,9 +9,9 @@ loop-place-preserved c =
     let i = c.loop-place.place in
     let cs = vec_items c.loop-place.self.counters in
     let within : i < length ps = search rules in (
-      c.lower-at.ensures.size ∙ c.loop-place.invariant.0,
-      stepped_more lowered (λ x. refl) ps i within c.loop-place.invariant.1 c.lower-at.ensures.long
-          (λ p h. c.lower-at.ensures.each p h ∙ ap (λ b. lowered (cond b false (eqb (get_or ps i 0) p)) (get_or cs p 0)) c.repeats-again.ensures),
+      c.lower_at.ensures.size ∙ c.loop-place.invariant.0,
+      stepped_more lowered (λ x. refl) ps i within c.loop-place.invariant.1 c.lower_at.ensures.long
+          (λ p h. c.lower_at.ensures.each p h ∙ ap (λ b. lowered (cond b false (eqb (get_or ps i 0) p)) (get_or cs p 0)) c.repeats-again.ensures),
     )
 
 pub returns : goal.returns

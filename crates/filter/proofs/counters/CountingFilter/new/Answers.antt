@@ -4,7 +4,7 @@ use Rattle.filter.proofs.counters.CountingFilter.new.Goals as goal
 
 pub invariant-of-result : goal.invariant-of-result
 invariant-of-result c =
-    let v = c.in-ok-counters.counters in
+    let v = c.in_ok-counters.counters in
     let n = c.args.size.positions in
-    let zero-at : (p : ℕ) → get_or (vec_items v) p 0 ≡ 0 = λ p. ap (λ l. get_or l p 0) (c.in-ok-counters.ensures.items-if-clones-equal (λ y h. h)) ∙ get_or_zeros n p in
-    (c.in-ok-counters.ensures.len, ((λ p. let e = zero-at p in omega arith), tt))
+    let zero-at : (p : ℕ) → get_or (vec_items v) p 0 ≡ 0 = λ p. ap (λ l. get_or l p 0) (c.in_ok-counters.ensures.items-if-clones-equal (λ y h. h)) ∙ get_or_zeros n p in
+    (c.in_ok-counters.ensures.len, ((λ p. let e = zero-at p in omega arith), tt))

@@ -12,10 +12,10 @@ returns-then-at-octets c k below =
 pub returns : goal.returns
 returns c k below =
     let first = 8 * c.args.at in
-    let items = c.as-slice-counters.result.now in
+    let items = c.as_slice-counters.result.now in
     let within : k < first + 8 - first = omega arith in
     c.pack.ensures k below
     ∙ ap (λ n. ltb 0 n)
     (get_or-take (first + 8 - first) (drop first items) k 0 within
     ∙ get_or-drop first items k 0
-    ∙ ap (λ l. get_or l (first + k) 0) c.as-slice-counters.ensures.value)
+    ∙ ap (λ l. get_or l (first + k) 0) c.as_slice-counters.ensures.value)

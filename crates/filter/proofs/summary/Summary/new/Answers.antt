@@ -4,9 +4,9 @@ use Rattle.filter.proofs.summary.Summary.new.Goals as goal
 
 pub invariant-of-result : goal.invariant-of-result
 invariant-of-result c =
-    let v = c.in-ok-octets.octets in
+    let v = c.in_ok-octets.octets in
     let n = c.args.size.positions in
-    let zero-at : (i : ℕ) → get_or (vec_items v) i 0 ≡ 0 = λ i. ap (λ l. get_or l i 0) (c.in-ok-octets.ensures.items-if-clones-equal (λ y h. h)) ∙ get_or_zeros c.octets.result i in
-    let made : vec_len v ≡ c.octets.result = c.in-ok-octets.ensures.len in
+    let zero-at : (i : ℕ) → get_or (vec_items v) i 0 ≡ 0 = λ i. ap (λ l. get_or l i 0) (c.in_ok-octets.ensures.items-if-clones-equal (λ y h. h)) ∙ get_or_zeros c.octets.result i in
+    let made : vec_len v ≡ c.octets.result = c.in_ok-octets.ensures.len in
     let long : 8 * vec_len v ≡ n = omega arith in
     (long, ((λ i. let e = zero-at i in omega arith), tt))

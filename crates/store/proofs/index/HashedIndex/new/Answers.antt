@@ -8,10 +8,10 @@ use Rattle.store.proofs.index.HashedIndex.new.Goals as goal
 
 pub invariant-of-result : goal.invariant-of-result
 invariant-of-result c =
-    let rs = c.clear-rows.new.rows in
-    let cells = c.clear-cells.new.cells in
-    let none = none_at rs (length c.args.rows.now) c.clear-rows.ensures in
-    let unused : (p : ℕ) → get_or cells p Never ≡ Never = λ p. ap (λ l. get_or l p Never) c.clear-cells.ensures ∙ get_or_replicated Never (length c.args.cells.now) p in (
+    let rs = c.clear_rows.new.rows in
+    let cells = c.clear_cells.new.cells in
+    let none = none_at rs (length c.args.rows.now) c.clear_rows.ensures in
+    let unused : (p : ℕ) → get_or cells p Never ≡ Never = λ p. ap (λ l. get_or l p Never) c.clear_cells.ensures ∙ get_or_replicated Never (length c.args.cells.now) p in (
       omega arith,
       (
         omega arith,
@@ -35,4 +35,4 @@ pub returns : goal.returns
 returns c =
     let rows : length c.args.rows.now ≡ c.args.places = omega arith in
     let cells : length c.args.cells.now ≡ 2048 = omega arith in
-    ((omega arith, omega arith), c.clear-rows.ensures ∙ ap (λ n. replicate n None) rows, c.clear-cells.ensures ∙ ap (λ n. replicate n Never) cells)
+    ((omega arith, omega arith), c.clear_rows.ensures ∙ ap (λ n. replicate n None) rows, c.clear_cells.ensures ∙ ap (λ n. replicate n Never) cells)

@@ -5,6 +5,6 @@ use Rattle.store.proofs.row.Row.filled.Goals as goal
 
 pub returns : goal.returns
 returns c =
-    let copied = c.copy-from-slice.ensures.after in
+    let copied = c.copy_from_slice.ensures.after in
     ap (λ (l : List ℕ). Some (record { name = l; size = c.args.size; cost = c.args.cost }))
-    (take_at c.copy-from-slice.new.self _ _ (ap length copied) ∙ copied)
+    (take_at c.copy_from_slice.new.self _ _ (ap length copied) ∙ copied)

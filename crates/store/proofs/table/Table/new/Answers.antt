@@ -4,6 +4,6 @@ use Rattle.store.proofs.table.Table.new.Goals as goal
 
 pub invariant-of-result : goal.invariant-of-result
 invariant-of-result c =
-    let rs = c.clear-rows.new.rows in
-    let none = none_at rs (length c.args.rows.now) c.clear-rows.ensures in
+    let rs = c.clear_rows.new.rows in
+    let none = none_at rs (length c.args.rows.now) c.clear_rows.ensures in
     (omega arith, (omega arith, (empty_unique rs none, tt)))

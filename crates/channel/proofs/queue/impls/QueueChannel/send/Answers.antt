@@ -9,9 +9,9 @@ use Rattle.channel.proofs.queue.impls.QueueChannel.send.Goals as goal
 pub returns-then-self-eq-SLOTS : goal.returns-then-self-eq-SLOTS
 returns-then-self-eq-SLOTS c =
     record {
-      allowed = (c.in-ok-check-letter.ensures, count_is c.args.self.now ∙ c.if-self-eq-SLOTS.true);
+      allowed = (c.in_ok-check_letter.ensures, count_is c.args.self.now ∙ c.if-self-eq-SLOTS.true);
       exactly = refl;
-      nothing-else = (λ x w. inl w, refl);
+      nothing_else = (λ x w. inl w, refl);
     }
 
 pub index-mut-requires : goal.index-mut-requires
@@ -27,7 +27,7 @@ fill-requires c =
     let q = c.args.self.now in
     let most = q.most in
     let other = c.if-self-eq-SLOTS.false in
-    let fits = c.in-ok-check-letter.ensures.fitting.1 in
+    let fits = c.in_ok-check_letter.ensures.fitting.1 in
     let wide = free_space q c.index-mut.result.now (omega arith) c.index-mut.ensures.value in
     omega arith
 
@@ -42,7 +42,7 @@ invariant-of-self c =
     let sent = letter c.args.to c.args.message.now in
     let is = put q slot within ∙ ap (λ x. queued q ++ (x ∷ [])) c.fill.ensures.0 in (
       measured_set _ (vec_items q.slots) q.count slot q.decreases (omega arith) (c.fill.ensures.1 ∙ free_space q c.index-mut.result.now within c.index-mut.ensures.value),
-      (omega arith, (λ x w. all_fitting _ (queued q) sent q.fitting c.in-ok-check-letter.ensures.fitting x (subst (λ all. Waits all x) is w), tt)),
+      (omega arith, (λ x w. all_fitting _ (queued q) sent q.fitting c.in_ok-check_letter.ensures.fitting x (subst (λ all. Waits all x) is w), tt)),
     )
 
 pub returns : goal.returns
@@ -53,7 +53,7 @@ returns c =
     let count = count_is q in
     let is = put q c.fill.new.self (omega arith) ∙ ap (λ x. queued q ++ (x ∷ [])) c.fill.ensures.0 in
     record {
-      allowed = (c.in-ok-check-letter.ensures, λ full. other (sym count ∙ full));
+      allowed = (c.in_ok-check_letter.ensures, λ full. other (sym count ∙ full));
       exactly = (is, refl);
-      nothing-else = (λ x w. sent_last (queued q) (letter c.args.to c.args.message.now) x (subst (λ all. Waits all x) is w), refl);
+      nothing_else = (λ x w. sent_last (queued q) (letter c.args.to c.args.message.now) x (subst (λ all. Waits all x) is w), refl);
     }

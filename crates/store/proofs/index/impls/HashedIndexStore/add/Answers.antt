@@ -13,7 +13,7 @@ pub put-requires : goal.put-requires
 put-requires c =
     let s = c.args.self.now in
     let may = c.in-Some.ensures in
-    let vacant = c.in-Some-open-cell.ensures in
+    let vacant = c.in-Some-open_cell.ensures in
     let w = may.free.within in
     let l = memory.long s.parts.rows.now in
     let most = s.most in
@@ -26,11 +26,11 @@ pub invariant-of-self : goal.invariant-of-self
 invariant-of-self c =
     let s = c.args.self.now in
     let may = c.in-Some.ensures in
-    let vacant = c.in-Some-open-cell.ensures in
+    let vacant = c.in-Some-open_cell.ensures in
     let rows = contents s.parts.rows.now in
     let cells = s.parts.cells.now in
     let place = c.in-Some.place in
-    let at = c.in-Some-open-cell.at in
+    let at = c.in-Some-open_cell.at in
     let new : Content = record { name = c.args.name.now; size = c.args.size; cost = c.args.cost } in
     let free = may.free.empty in
     let inside = may.free.within in

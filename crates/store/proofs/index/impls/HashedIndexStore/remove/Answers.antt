@@ -16,18 +16,18 @@ release-requires c =
     let w = held.within in
     let l = memory.long s.parts.rows.now in
     let all = s.all in
-    let short = c.in-Some-cell-of.ensures.0 in
+    let short = c.in-Some-cell_of.ensures.0 in
     (omega arith, omega arith)
 
 pub invariant-of-self : goal.invariant-of-self
 invariant-of-self c =
     let s = c.args.self.now in
     let held = c.in-Some.ensures.0 in
-    let found = c.in-Some-cell-of.ensures in
+    let found = c.in-Some-cell_of.ensures in
     let rows = contents s.parts.rows.now in
     let cells = s.parts.cells.now in
     let place = c.args.place in
-    let at = c.in-Some-cell-of.at in
+    let at = c.in-Some-cell_of.at in
     let inside = held.within in
     let within : at < length cells = let short = found.0 in let all = s.all in omega arith in
     let rows_are = c.release.ensures.rows in
