@@ -1,6 +1,6 @@
 -- What a queue does.
 use Rattle.std.specs.Prelude.{◌≡◌, ℕ, ◌+◌, ◌<◌, List, ◌∷◌, ◌++◌, length, take, drop, Some, None, vec_items, Option, ◌≢◌, slice_index_or}
-use Rattle.std.specs.List.{AllByRecursion as All}
+use Rattle.std.specs.List.{AllByRecursion}
 use Rattle.filter.specs.Positions.{Sized}
 use Rattle.channel.specs.Letters.{Letter, letter}
 use Rattle.channel.specs.Slots.{letters, Measured}
@@ -23,7 +23,7 @@ queued q = letters q.count (vec_items q.slots)
 
 -- no letter is for this house
 abbrev pub NoneFor : ℕ → List Letter → Type 0
-NoneFor house waiting = All (λ x. x.to ≢ house) waiting
+NoneFor house waiting = AllByRecursion (λ x. x.to ≢ house) waiting
 
 -- the first letter for a house stands at a place
 pub record FirstFor (house : ℕ) (waiting : List Letter) (place : ℕ) : Type 0 where

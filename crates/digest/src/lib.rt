@@ -2,7 +2,7 @@
 #![tactic(auto)]
 
 ghost use Rattle.std.specs.Prelude.{◌≡◌, ℕ, ◌^◌, ◌<◌, List, length};
-ghost use Rattle.std.specs.List.{AllByRecursion as All};
+ghost use Rattle.std.specs.List.{AllByRecursion};
 
 pub mod exports;
 mod fnv1a;
@@ -23,5 +23,5 @@ pub trait Digest {
 
     ghost four: { (name : List ℕ) → length (words name) ≡ 4 };
 
-    ghost narrow: { (name : List ℕ) → All (λ w. w < 2 ^ 32) (words name) };
+    ghost narrow: { (name : List ℕ) → AllByRecursion (λ w. w < 2 ^ 32) (words name) };
 }

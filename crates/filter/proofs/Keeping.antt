@@ -1,12 +1,11 @@
 -- The counters of outstanding receipts, step by step.
-use Rattle.std.proofs.Common.{◌≡◌, ℕ, zero, suc, ◌+◌, ◌-◌, ◌*◌, ◌/◌, ◌%◌, ◌<◌, ◌≤◌, max, Bool, true, false, cond, ◌&&◌, ◌||◌, eqb, ltb, leb, ◌⊎◌, List, [], ◌∷◌, ◌++◌, length, get_or, replicate, sym, refl, ap, ◌∙◌, subst, inl, inr, mod-lt, arith}
+use Rattle.std.proofs.Common.{◌≡◌, ℕ, zero, suc, ◌+◌, ◌<◌, ◌≤◌, max, Bool, true, false, cond, ◌||◌, eqb, leb, List, [], ◌∷◌, ◌++◌, length, get_or, sym, refl, ap, ◌∙◌, subst, mod-lt, arith}
 use lib.ListN.{length-replicate}
-use Rattle.std.specs.List.{ContainsAt as Has, AllByRecursion as All}
 use Rattle.std.proofs.ByRecursion.{All-get_or}
 use Rattle.std.proofs.lemmas.Bool.{lt-ltb, eq-eqb, or_right, and_from}
 use Rattle.std.proofs.lemmas.Bool.Decides.{nat_tests}
-use Rattle.filter.specs.Positions.{positions, names}
-use Rattle.filter.specs.Counters.{raised, lowered, Issued, Spent}
+use Rattle.filter.specs.Positions.{names}
+use Rattle.filter.specs.Counters.{raised, lowered}
 use Rattle.filter.specs.Summaries.{bit, present, Summarizes}
 use Rattle.filter.specs.Laws.{naming, Kept, begun, issued, spent, Within, PositionsWithin, CountersCount, BelowFifteenCounts, IssuedIsPresent, OutstandingIsPresent}
 use Rattle.filter.proofs.Stepping.{get_or_zeros}

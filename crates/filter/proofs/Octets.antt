@@ -5,7 +5,6 @@ use lib.Bits.{bit_xor, xor_lt}
 use lib.Count.{ones}
 use mir.Val.{bool_byte}
 use Rattle.std.proofs.lemmas.List.{ext_get_or, at_drop_more}
-use Rattle.std.proofs.lemmas.Bool.Decides.{nat_tests}
 use Rattle.filter.specs.Summaries.{has_value, bit, differs, tally}
 use Rattle.filter.proofs.Values.{tally_same, tally_add, ones_tally, same_values, xor_value}
 

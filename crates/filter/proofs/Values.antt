@@ -1,9 +1,9 @@
 -- A number by its bits: how many are 1, those of an exclusive or, and that they determine it.
-use Rattle.std.proofs.Common.{◌≡◌, ℕ, zero, suc, ◌+◌, ◌*◌, ◌/◌, ◌%◌, ◌^◌, ◌<◌, ◌≤◌, Bool, true, false, cond, not, eqb, sym, refl, ap, ◌∙◌, inl, inr, add-zero, add_assoc, add-suc, div-one, arith}
+use Rattle.std.proofs.Common.{◌≡◌, ℕ, zero, suc, ◌+◌, ◌/◌, ◌%◌, ◌^◌, ◌<◌, ◌≤◌, Bool, true, false, cond, not, eqb, sym, refl, ap, ◌∙◌, add-zero, add_assoc, add-suc, div-one, arith}
 use native.Mathlib.Nat.{zero-div, div-div-eq-div-mul, pow-succ'}
 use lib.Bits.{bit_xor, xor_shr, xor_mod}
 use lib.Count.{ones, ones_step}
-use Rattle.std.proofs.lemmas.Bool.Decides.{nat_tests, eqb_tells}
+use Rattle.std.proofs.lemmas.Bool.Decides.{nat_tests}
 use Rattle.filter.specs.Summaries.{has_value, tally}
 
 -- counting, one by one

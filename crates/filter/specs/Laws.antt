@@ -1,6 +1,6 @@
 -- What issuing and spending receipts, and summaries, promise.
 use Rattle.std.specs.Prelude.{◌≡◌, ℕ, ◌+◌, ◌*◌, ◌<◌, max, true, cond, List, [], ◌∷◌, ◌++◌, length, replicate, nat_le, slice_index}
-use Rattle.std.specs.List.{ContainsAt as Has, AllByRecursion as All}
+use Rattle.std.specs.List.{ContainsAt as Has, AllByRecursion}
 use Rattle.filter.specs.Positions.{positions, names}
 use Rattle.filter.specs.Counters.{Issued, Spent}
 use Rattle.filter.specs.Summaries.{bit, present, Summarizes}
@@ -21,7 +21,7 @@ pub data Kept (m : ℕ) : List (List ℕ) → (ℕ → ℕ) → List ℕ → Typ
 
 -- every position is one of the m
 abbrev pub Within : ℕ → List ℕ → Type 0
-Within m ps = All (λ p. p < m) ps
+Within m ps = AllByRecursion (λ p. p < m) ps
 
 -- the positions of a name are among the m
 abbrev pub PositionsWithin : Type 0

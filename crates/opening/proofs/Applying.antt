@@ -1,6 +1,6 @@
 -- The changes between two summaries turn the first into the second.
 use Rattle.std.proofs.Common.{◌≡◌, ℕ, zero, suc, ◌+◌, ◌*◌, ◌/◌, ◌<◌, ◌≤◌, Bool, true, false, cond, not, ◌&&◌, eqb, ltb, leb, List, [], ◌∷◌, ◌++◌, length, sym, refl, ap, ◌∙◌, subst, inl, inr, arith}
-use Rattle.std.specs.List.{AllByRecursion as All}
+use Rattle.std.specs.List.{AllByRecursion}
 use Rattle.std.proofs.lemmas.Bool.{and_from, le-leb, lt-ltb, eq-eqb, ne_eqb, cases_eq, cond_both, ltb-true, and_parts}
 use Rattle.filter.specs.Summaries.{bit, differs, tally}
 use Rattle.icp.specs.declared.contents.Change.{Change}
@@ -56,11 +56,11 @@ module _ (a b : List ℕ) where
   abbrev Turns : ℕ → Change → Type 0
   Turns n e = (e.position < n) × (e.value ≡ not (bit a e.position))
 
-  all_append : (P : Change → Type 0) (es fs : List Change) → All P es → All P fs → All P (es ++ fs)
+  all_append : (P : Change → Type 0) (es fs : List Change) → AllByRecursion P es → AllByRecursion P fs → AllByRecursion P (es ++ fs)
   all_append P [] fs x y = y
   all_append P (e ∷ es) fs x y = (x.0, all_append P es fs x.1 y)
 
-  all_more : (n : ℕ) (es : List Change) → All (Turns n) es → All (Turns (suc n)) es
+  all_more : (n : ℕ) (es : List Change) → AllByRecursion (Turns n) es → AllByRecursion (Turns (suc n)) es
   all_more n [] x = tt
   all_more n (e ∷ es) x = ((let h = x.0.0 in omega arith, x.0.1), all_more n es x.1)
 
@@ -71,24 +71,24 @@ module _ (a b : List ℕ) where
   turned false true e = refl
   turned false false e = e
 
-  differ : (n : ℕ) → All (Turns n) (changed a b n)
+  differ : (n : ℕ) → AllByRecursion (Turns n) (changed a b n)
   differ zero = tt
   differ (suc n) = all_append (Turns (suc n)) (changed a b n) (last n (differs a b n)) (all_more n (changed a b n) (differ n)) (here (differs a b n) refl)
     where
-      here : (t : Bool) → differs a b n ≡ t → All (Turns (suc n)) (last n t)
+      here : (t : Bool) → differs a b n ≡ t → AllByRecursion (Turns (suc n)) (last n t)
       here true e = ((omega arith, turned (bit a n) (bit b n) e), tt)
       here false e = tt
 
   -- the entries rise
 
-  rises_append : (m low n : ℕ) (es fs : List Change) → rises m low es ≡ true → All (λ e. e.position < n) es → low ≤ n → ((l : ℕ) → l ≤ n → rises m l fs ≡ true) → rises m low (es ++ fs) ≡ true
+  rises_append : (m low n : ℕ) (es fs : List Change) → rises m low es ≡ true → AllByRecursion (λ e. e.position < n) es → low ≤ n → ((l : ℕ) → l ≤ n → rises m l fs ≡ true) → rises m low (es ++ fs) ≡ true
   rises_append m low n [] fs r x h s = s low h
   rises_append m low n (e ∷ es) fs r x h s =
       let p = and_parts (leb low e.position && ltb e.position m) (rises m (e.position + 1) es) r in
       let below = x.0 in
       and_from (leb low e.position && ltb e.position m) (rises m (e.position + 1) (es ++ fs)) p.0 (rises_append m (e.position + 1) n es fs p.1 x.1 (omega arith) s)
 
-  all_below : (n : ℕ) (es : List Change) → All (Turns n) es → All (λ e. e.position < n) es
+  all_below : (n : ℕ) (es : List Change) → AllByRecursion (Turns n) es → AllByRecursion (λ e. e.position < n) es
   all_below n [] x = tt
   all_below n (e ∷ es) x = (x.0.0, all_below n es x.1)
 

@@ -1,6 +1,6 @@
 -- What reading and writing promise together.
 use Rattle.std.specs.Prelude.{◌≡◌, ℕ, ◌+◌, ◌*◌, ◌/◌, ◌^◌, ◌<◌, ◌≤◌, Bool, true, cond, not, List, [], ◌∷◌, length, None, Option, ◌==◌, slice_index}
-use Rattle.std.specs.List.{AllByRecursion as All}
+use Rattle.std.specs.List.{AllByRecursion}
 use Rattle.filter.specs.Summaries.{bit}
 use Rattle.icp.specs.declared.contents.Change.{Change}
 use Rattle.opening.specs.declared.opener.Opener.{Opener}
@@ -115,7 +115,7 @@ ChangesApply = (a b : List ℕ) (m p : ℕ) → p < m → value_after (changed a
 
 -- each of them gives a position below m a value that it had not
 abbrev pub ChangesDiffer : Type 0
-ChangesDiffer = (a b : List ℕ) (m : ℕ) → All (λ e. (e.position < m) × (e.value ≡ not (bit a e.position))) (changed a b m)
+ChangesDiffer = (a b : List ℕ) (m : ℕ) → AllByRecursion (λ e. (e.position < m) × (e.value ≡ not (bit a e.position))) (changed a b m)
 
 -- a declaration is what a sibling may say, so that it is opened as it was written
 abbrev pub DeclaresProperly : Type 0

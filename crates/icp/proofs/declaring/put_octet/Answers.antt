@@ -18,8 +18,8 @@ put-requires c =
     let four : length c.octets.result ≡ 4 = ap length c.octets.ensures in
     omega arith
 
-pub overflow-add-next : goal.overflow-add-next
-overflow-add-next c =
+pub overflow_add-next : goal.overflow_add-next
+overflow_add-next c =
     let few = changed_few c.args.before.now c.args.after.now (8 * c.args.i + c.loop-k.k) in
     omega arith
 

@@ -22,8 +22,8 @@ copy_to-len-requires c =
     let fits = short q c.args.place c.remove-slot.result (omega arith) c.remove-slot.ensures.value in
     omega arith
 
-pub invariant-of-self : goal.invariant-of-self
-invariant-of-self c =
+pub invariant_of-self : goal.invariant_of-self
+invariant_of-self c =
     let q = c.args.self.now in
     let place = c.args.place in
     let slot = c.remove-slot.result in

@@ -1,4 +1,4 @@
-use Rattle.std.proofs.Common.{◌≡◌, ◌+◌, ◌-◌, ◌*◌, ◌<◌, ◌≤◌, ltb, length, get_or, drop, sym, ap, ◌∙◌, arith}
+use Rattle.std.proofs.Common.{◌≡◌, ◌+◌, ◌-◌, ◌*◌, ltb, get_or, drop, sym, ap, ◌∙◌, arith}
 use Rattle.std.proofs.lemmas.List.{drop_all}
 use Rattle.filter.specs.Summaries.{has_value}
 use Rattle.filter.proofs.Octets.{packed, packed_more, packed_room, packed_value, flag_is}
@@ -7,14 +7,14 @@ use Rattle.filter.proofs.counters.methods.pack.Goals as goal
 pub loop-i-init : goal.loop-i-init
 loop-i-init c = sym (ap packed (drop_all 8 c.args.counters.now (omega arith)))
 
-pub overflow-mul-octet : goal.overflow-mul-octet
-overflow-mul-octet c =
+pub overflow_mul-octet : goal.overflow_mul-octet
+overflow_mul-octet c =
     let room = packed_room c.args.counters.now c.requires c.loop-i.i c.loop-i-test.true in
     let e = c.loop-i.invariant in
     omega arith
 
-pub overflow-add-octet : goal.overflow-add-octet
-overflow-add-octet c =
+pub overflow_add-octet : goal.overflow_add-octet
+overflow_add-octet c =
     let room = packed_room c.args.counters.now c.requires c.loop-i.i c.loop-i-test.true in
     let e = c.loop-i.invariant in
     let flag = (flag_is (ltb 0 (get_or c.args.counters.now (7 - c.loop-i.i) 0))).1 in

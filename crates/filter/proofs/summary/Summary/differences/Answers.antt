@@ -1,4 +1,4 @@
-use Rattle.std.proofs.Common.{◌≡◌, ℕ, ◌+◌, ◌*◌, ◌<◌, get_or, vec_items, vec_len, ap, ◌∙◌, arith}
+use Rattle.std.proofs.Common.{◌≡◌, ℕ, ◌+◌, ◌*◌, ◌<◌, get_or, vec_items, vec_len, ◌∙◌, arith}
 use lib.Bits.{bit_xor}
 use lib.Count.{ones}
 use Rattle.std.proofs.lemmas.List.{get_or_read_under}
@@ -20,8 +20,8 @@ counted a b i count x y la lb ex ey e =
     let y-is : y ≡ get_or ys i 0 = get_or_read_under ys i (vec_len b.octets) y 0 ey lb b.octets.ok.0 in
     (λ j. count + ones (bit_xor (x-is j) (y-is j))) ∙ differences_more xs ys i count (a.octet i) (b.octet i) e
 
-pub overflow-add-count : goal.overflow-add-count
-overflow-add-count c =
+pub overflow_add-count : goal.overflow_add-count
+overflow_add-count c =
     let a = c.args.self.now in
     let b = c.args.other.now in
     let i = c.loop-i.i in

@@ -1,6 +1,6 @@
-use Rattle.std.proofs.Common.{◌≡◌, ◌+◌, ◌<◌, ◌≤◌, ◌&&◌, length, get_or, drop, vec_items, sym, ap, ◌∙◌, rules}
+use Rattle.std.proofs.Common.{◌+◌, ◌<◌, ◌≤◌, ◌&&◌, length, drop, vec_items, sym, ap, ◌∙◌, rules}
 use Rattle.std.proofs.lemmas.List.{at_drop_more, at_drop_all}
-use Rattle.filter.specs.Summaries.{bit, present}
+use Rattle.filter.specs.Summaries.{present}
 use Rattle.filter.proofs.summary.Summary.has.Goals as goal
 
 pub returns-then-not-bit : goal.returns-then-not-bit

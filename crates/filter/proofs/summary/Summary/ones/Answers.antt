@@ -1,4 +1,4 @@
-use Rattle.std.proofs.Common.{◌≡◌, ℕ, ◌+◌, ◌*◌, ◌<◌, ◌≤◌, List, length, get_or, vec_items, vec_len, ap, ◌∙◌, arith}
+use Rattle.std.proofs.Common.{◌≡◌, ℕ, ◌+◌, ◌*◌, ◌<◌, List, get_or, vec_items, vec_len, ap, ◌∙◌, arith}
 use lib.Count.{ones}
 use Rattle.filter.specs.Summaries.{bit, tally}
 use Rattle.filter.proofs.Octets.{ones_more}
@@ -10,8 +10,8 @@ counted : (octets items : List ℕ) (i count : ℕ) → items ≡ octets → get
     → count + ones (get_or items i 0) ≡ tally (bit octets) (8 * (i + 1))
 counted octets items i count same h e = ap (λ l. count + ones (get_or l i 0)) same ∙ ones_more octets i count h e
 
-pub overflow-add-count : goal.overflow-add-count
-overflow-add-count c =
+pub overflow_add-count : goal.overflow_add-count
+overflow_add-count c =
     let s = c.args.self.now in
     let octets = vec_items s.octets in
     let i = c.loop-octet.octet-index in

@@ -1,4 +1,4 @@
-use Rattle.std.proofs.Common.{◌≡◌, ℕ, ◌+◌, ◌*◌, ◌<◌, ltb, get_or, vec_items, vec_len}
+use Rattle.std.proofs.Common.{◌≡◌, ℕ, ◌+◌, ◌*◌, ◌<◌, ltb, get_or, vec_items}
 use Rattle.filter.specs.Summaries.{has_value}
 use Rattle.filter.proofs.summary.Summary.summarize.Given as goal
 

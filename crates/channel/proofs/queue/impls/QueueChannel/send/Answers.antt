@@ -31,8 +31,8 @@ fill-requires c =
     let wide = free_space q c.index-mut.result.now (omega arith) c.index-mut.ensures.value in
     omega arith
 
-pub invariant-of-self : goal.invariant-of-self
-invariant-of-self c =
+pub invariant_of-self : goal.invariant_of-self
+invariant_of-self c =
     let q = c.args.self.now in
     let long = q.decreases.0 in
     let most = q.most in
