@@ -1,9 +1,9 @@
 -- Every n-th call is due.
-use Rattle.std.proofs.Common.{◌≡◌, ℕ, zero, suc, ◌+◌, ◌%◌, ◌<◌, ◌≤◌, true, false, cond, eqb, ltb, ◌⊎◌, Decides, sym, refl, ap, ◌∙◌, ⊎_elim, true≢false, mod-lt, mod-eq_of_lt, add-one, arith, rules}
+use Rattle.std.proofs.Common.{◌≡◌, ℕ, zero, suc, ◌+◌, ◌%◌, ◌<◌, ◌≤◌, false, cond, eqb, ltb, ◌⊎◌, Decides, sym, refl, ap, ◌∙◌, ⊎_elim, true≢false, mod-lt, mod-eq_of_lt, add-one, arith, rules}
 use native.Mathlib.Nat.{mod_self, suc-mod, zero-mod}
 use Rattle.std.proofs.lemmas.Bool.Decides.{nat_tests}
 use Rattle.std.proofs.lemmas.Bool.{cases_eq}
-use Rattle.channel.specs.Cycles.{counted, due, next, EveryNthIsDue}
+use Rattle.channel.specs.Cycles.{counted, due, EveryNthIsDue}
 
 period_is : (n k : ℕ) → (counted n k).period ≡ n
 period_is n zero = refl

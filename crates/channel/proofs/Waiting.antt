@@ -1,5 +1,5 @@
 -- Letters that wait, sent and taken.
-use Rattle.std.proofs.Common.{◌≡◌, ℕ, ◌+◌, ◌<◌, ◌⊎◌, List, [], ◌∷◌, ◌++◌, length, get_or, take, drop, sym, refl, ap, ◌∙◌, subst, inl, inr, ⊎_elim}
+use Rattle.std.proofs.Common.{◌≡◌, ℕ, ◌+◌, ◌<◌, List, [], ◌∷◌, ◌++◌, length, get_or, take, drop, sym, refl, ap, ◌∙◌, subst, inl, inr, ⊎_elim}
 use Rattle.std.proofs.lemmas.List.{take-append-drop, drop_more}
 use Rattle.channel.specs.Letters.{Letter, letter, Fitting, Waits, Sent, NoneNew}
 use Rattle.channel.specs.Queues.{FirstFor, TakenAt, Oldest}

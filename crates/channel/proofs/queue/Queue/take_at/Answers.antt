@@ -33,10 +33,12 @@ invariant_of-self c =
     let most = q.most in
     let within = c.requires.0 in
     let here : place < q.count = omega arith in
-    let left = moved q place slot without after here c.remove-slot.ensures.items c.push_reserved.ensures.items in (
-      measured_after q place slot without after here c.remove-slot.ensures.value c.remove-slot.ensures.items c.push_reserved.ensures.items,
-      (omega arith, (λ x w. q.fitting x (left_waited (queued q) place within x (subst (λ all. Waits all x) left w)), tt)),
-    )
+    let left = moved q place slot without after here c.remove-slot.ensures.items c.push_reserved.ensures.items in
+    record {
+      measured = measured_after q place slot without after here c.remove-slot.ensures.value c.remove-slot.ensures.items c.push_reserved.ensures.items;
+      most = omega arith;
+      fitting = λ x w. q.fitting x (left_waited (queued q) place within x (subst (λ all. Waits all x) left w));
+    }
 
 pub returns : goal.returns
 returns c =

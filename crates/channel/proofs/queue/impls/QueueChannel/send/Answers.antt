@@ -14,8 +14,8 @@ returns-then-self-eq-SLOTS c =
       nothing_else = (λ x w. inl w, refl);
     }
 
-pub index-mut-requires : goal.index-mut-requires
-index-mut-requires c =
+pub index_mut-requires : goal.index_mut-requires
+index_mut-requires c =
     let q = c.args.self.now in
     let m = many q in
     let most = q.most in
@@ -28,22 +28,24 @@ fill-requires c =
     let most = q.most in
     let other = c.if-self-eq-SLOTS.false in
     let fits = c.in_ok-check_letter.ensures.fitting.1 in
-    let wide = free_space q c.index-mut.result.now (omega arith) c.index-mut.ensures.value in
+    let wide = free_space q c.index_mut.result.now (omega arith) c.index_mut.ensures.value in
     omega arith
 
 pub invariant_of-self : goal.invariant_of-self
 invariant_of-self c =
     let q = c.args.self.now in
-    let long = q.decreases.0 in
+    let long = q.measured.0 in
     let most = q.most in
     let other = c.if-self-eq-SLOTS.false in
     let within : q.count < 32 = omega arith in
     let slot = c.fill.new.self in
     let sent = letter c.args.to c.args.message.now in
-    let is = put q slot within ∙ ap (λ x. queued q ++ (x ∷ [])) c.fill.ensures.0 in (
-      measured_set _ (vec_items q.slots) q.count slot q.decreases (omega arith) (c.fill.ensures.1 ∙ free_space q c.index-mut.result.now within c.index-mut.ensures.value),
-      (omega arith, (λ x w. all_fitting _ (queued q) sent q.fitting c.in_ok-check_letter.ensures.fitting x (subst (λ all. Waits all x) is w), tt)),
-    )
+    let is = put q slot within ∙ ap (λ x. queued q ++ (x ∷ [])) c.fill.ensures.0 in
+    record {
+      measured = measured_set _ (vec_items q.slots) q.count slot q.measured (omega arith) (c.fill.ensures.1 ∙ free_space q c.index_mut.result.now within c.index_mut.ensures.value);
+      most = omega arith;
+      fitting = λ x w. all_fitting _ (queued q) sent q.fitting c.in_ok-check_letter.ensures.fitting x (subst (λ all. Waits all x) is w);
+    }
 
 pub returns : goal.returns
 returns c =
