@@ -21,7 +21,7 @@ fn summary_of_abc(rt: HostRuntime) -> Result<(), Fail> {
     let mut summary = Summary::new(rt.alloc(), size)?;
     assert_eq!(rt; summary.has(&abc), false);
     assert_eq!(rt; summary.summarize(&filter), Ok(()));
-    assert_eq!(rt; summary.octets(), &[0, 0, 0, 1, 0, 0, 5, 0x20]);
+    assert_eq!(rt; summary.octets(), [0, 0, 0, 1, 0, 0, 5, 0x20].as_slice());
     assert_eq!(rt; summary.ones(), 4);
     assert_eq!(rt; summary.has(&abc), true);
     assert_eq!(rt; summary.has(&Receipt::of(&Md5, size, b"abd")), false);

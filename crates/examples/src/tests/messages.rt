@@ -97,7 +97,7 @@ fn call_for_whole(rt: HostRuntime) -> Result<(), Fail> {
     assert_eq!(rt; answer.write(&mut out), Ok(20));
     assert_eq!(rt;
         &out[..],
-        b"\x20\x02\x00\x14\x00\x00\x01\x02\x00\x00\x00\x00\x00\x00\x00\x02\x00\x00\x00\x03\x09"
+        b"\x20\x02\x00\x14\x00\x00\x01\x02\x00\x00\x00\x00\x00\x00\x00\x02\x00\x00\x00\x03\x09".as_slice()
     );
     let Ok(opened) = house.open_answer(&out[0..20]) else {
         return Err(Fail::new("the answer is opened"));
@@ -121,12 +121,12 @@ fn query_about_atlas(rt: HostRuntime) -> Result<(), Fail> {
         Err(MessageFault::Output { house: 1 })
     );
     assert_eq!(rt; query.write(&mut out), Ok(30));
-    assert_eq!(rt; &out[20..30], b"\x00\x00\x00\x01atlas\x00");
+    assert_eq!(rt; &out[20..30], b"\x00\x00\x00\x01atlas\x00".as_slice());
     let Ok(asked) = house.open_query(&out) else {
         return Err(Fail::new("the query is opened"));
     };
     assert_eq!(rt; (asked.sender, asked.request), (1, 5));
-    assert_eq!(rt; asked.name, name);
+    assert_eq!(rt; asked.name, name.as_slice());
     Ok(())
 }
 
