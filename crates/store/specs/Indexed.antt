@@ -1,5 +1,5 @@
 -- What ties the cells of a hashed index to its rows.
-use Rattle.std.specs.Prelude.{◌≡◌, ℕ, ◌+◌, ◌%◌, ◌<◌, Bool, true, false, List, length, get_or, is_some, Some, None, count_by, Option, ◌≢◌, slice_index_or, slice_set}
+use Rattle.std.specs.Prelude.{◌≡◌, ℕ, ◌+◌, ◌%◌, ◌<◌, Bool, true, false, List, get_or, is_some, Some, None, count_by, Option, ◌≢◌, slice_index_or, slice_set}
 use Rattle.store.specs.declared.cell.Cell.{Cell}
 use Rattle.store.specs.declared.cell.Cell.TheVariants.{Never, Freed, Taken}
 use Rattle.store.specs.Contents.{Content, Contents}
