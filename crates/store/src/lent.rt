@@ -59,7 +59,7 @@ pub fn has_name(rows: &[Row], place: usize, name: &[u8]) -> bool
 
 // A free place for a good record whose name is not held.
 pub fn place_for(rows: &[Row], held: bool, name: &[u8], size: u32, cost: u16) -> Option<usize>
-    ensures { MatchOption result (Good (record { name = name.entry.now; size = size; cost = cost }) → held ≡ false → (i : ℕ) → Free (contents rows.now) i → ⊥) (λ place. Good (record { name = name.entry.now; size = size; cost = cost }) × (held ≡ false) × Free (contents rows.now) place) }
+    ensures { MatchOption result (Good (record { name = name.now; size = size; cost = cost }) → held ≡ false → (i : ℕ) → Free (contents rows.now) i → ⊥) (λ place. Good (record { name = name.now; size = size; cost = cost }) × (held ≡ false) × Free (contents rows.now) place) }
 {
     if held || !good_name(name) || !good_worth(size, cost) {
         return None;

@@ -21,7 +21,7 @@ pub trait Store {
 
     // A record comes to a free place of the store's choice, which is answered.
     fn add(&mut self, name: &[u8], size: u32, cost: u16) -> Result<usize, StoreFault>
-        ensures { MatchResult result (λ place. Added (rows self.old) (record { name = name.entry.now; size = size; cost = cost }) place (rows self.new)) (λ f. (f ≡ StoreFault.NotAdded) × Unaddable (rows self.old) (record { name = name.entry.now; size = size; cost = cost }) × (self.new ≡ self.old)) };
+        ensures { MatchResult result (λ place. Added (rows self.old) (record { name = name.now; size = size; cost = cost }) place (rows self.new)) (λ f. (f ≡ StoreFault.NotAdded) × Unaddable (rows self.old) (record { name = name.now; size = size; cost = cost }) × (self.new ≡ self.old)) };
 
     // The row at a place leaves.
     fn remove(&mut self, place: usize) -> Result<(), StoreFault>

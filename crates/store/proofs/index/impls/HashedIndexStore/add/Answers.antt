@@ -20,7 +20,7 @@ put-requires c =
     let all = s.all in
     let at = vacant.at_is in
     let short = may.good.named.short in
-    record { at_in_bounds = (omega arith, omega arith); place_bound = (omega arith, omega arith) }
+    record { cell_within = omega arith; row_within = omega arith; place_fits = omega arith; name_short = omega arith }
 
 pub invariant_of-self : goal.invariant_of-self
 invariant_of-self c =

@@ -17,7 +17,7 @@ release-requires c =
     let l = memory.long s.parts.rows.now in
     let all = s.all in
     let short = c.in-Some-cell_of.ensures.0 in
-    (omega arith, omega arith)
+    record { cell_within = omega arith; row_within = omega arith }
 
 pub invariant_of-self : goal.invariant_of-self
 invariant_of-self c =
