@@ -1,6 +1,6 @@
 // Lent rows, by place.
-ghost use Rattle.std.specs.Prelude.{◌≡◌, ℕ, ◌<◌, ◌≤◌, Bool, true, false, length, replicate, None as Nothing, Decides, MatchOption, slice_index_or};
-ghost use Rattle.store.specs.Contents.{Content, Bears, Held, Free, Absent, Named, Good};
+ghost use Rattle.std.specs.Prelude.{◌≡◌, ℕ, ◌<◌, false, length, replicate, None as Nothing, Decides, MatchOption, slice_index_or};
+ghost use Rattle.store.specs.Contents.{Bears, Held, Free, Absent, Named, Good};
 ghost use Rattle.store.specs.Rows.{content, contents};
 
 use crate::records::{good_name, good_worth};

@@ -1,6 +1,6 @@
 // What every store does.
-ghost use Rattle.std.specs.Prelude.{◌≡◌, ℕ, List, length, None as Nothing, MatchOption, MatchResult, slice_index_or, slice_set};
-ghost use Rattle.store.specs.Contents.{Content, Contents, Unique, Named, Absent, Held, Added, Unaddable};
+ghost use Rattle.std.specs.Prelude.{◌≡◌, length, None as Nothing, MatchOption, MatchResult, slice_index_or, slice_set};
+ghost use Rattle.store.specs.Contents.{Contents, Unique, Named, Absent, Held, Added, Unaddable};
 ghost use Rattle.store.specs.Rows.{content};
 
 use crate::refusals::StoreFault;

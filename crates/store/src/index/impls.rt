@@ -1,6 +1,6 @@
 // A hashed index is a store.
 ghost use Rattle.std.specs.Prelude.{◌≡◌, IfOk, None as Nothing, MatchOption, MatchResult, OnOk, slice_index_or, slice_set};
-ghost use Rattle.store.specs.Contents.{Content, Held, Addable, Added, Unaddable};
+ghost use Rattle.store.specs.Contents.{Held, Addable, Added, Unaddable};
 ghost use Rattle.store.specs.Indexed.{Took, Gave};
 ghost use Rattle.store.specs.Rows.{contents};
 

@@ -1,8 +1,8 @@
 // Cells searched, taken and freed.
 ghost use Rattle.std.specs.Prelude.{◌≡◌, ℕ, ◌+◌, ◌%◌, ◌<◌, ◌≤◌, false, length, Some as Just, None as Nothing, Decides, MatchOption, ◌≢◌, slice_index_or, slice_set};
 ghost use Rattle.store.specs.declared.cell.Cell.TheVariants.{Never as Unused, Freed as Emptied, Taken as Placed};
-ghost use Rattle.store.specs.Contents.{Content, Held, Free, Good};
-ghost use Rattle.store.specs.Indexed.{taken, Opens};
+ghost use Rattle.store.specs.Contents.{Held, Free, Good};
+ghost use Rattle.store.specs.Indexed.{Opens};
 ghost use Rattle.store.specs.Rows.{content, contents};
 ghost use Rattle.store.specs.Search.{start, cell, Looks, Search};
 

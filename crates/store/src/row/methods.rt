@@ -1,5 +1,5 @@
 // Rows made and read.
-ghost use Rattle.std.specs.Prelude.{◌≡◌, ◌≤◌, Bool, length, take, is_some, Some as Just, None as Nothing, Decides};
+ghost use Rattle.std.specs.Prelude.{◌≡◌, ◌≤◌, length, take, is_some, Some as Just, None as Nothing, Decides};
 ghost use Rattle.store.specs.Contents.{Content, Bears};
 ghost use Rattle.store.specs.Rows.{content};
 

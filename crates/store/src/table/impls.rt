@@ -1,6 +1,6 @@
 // A table is a store.
 ghost use Rattle.std.specs.Prelude.{◌≡◌, None as Nothing, MatchOption, slice_index_or};
-ghost use Rattle.store.specs.Contents.{Content, Held, Addable, Unaddable};
+ghost use Rattle.store.specs.Contents.{Held, Addable, Unaddable};
 ghost use Rattle.store.specs.Rows.{content, contents};
 
 use super::Table;
