@@ -1,14 +1,13 @@
 -- What ties cells to rows, kept as records come and leave.
-use Rattle.std.proofs.Common.{◌≡◌, ℕ, suc, ◌+◌, ◌-◌, ◌%◌, ◌<◌, ◌≤◌, Bool, true, false, cond, ◌⊎◌, List, [], ◌∷◌, length, get_or, set, replicate, is_some, Some, None, count_by, Option, sym, refl, ap, ◌∙◌, subst, inl, inr, arith, MatchOption}
+use Rattle.std.proofs.Common.{◌≡◌, ℕ, suc, ◌+◌, ◌-◌, ◌%◌, ◌<◌, ◌≤◌, Bool, true, false, cond, ◌⊎◌, List, [], ◌∷◌, length, get_or, set, is_some, Some, None, count_by, Option, sym, refl, ap, ◌∙◌, subst, inl, inr, arith, MatchOption}
 use mathlib.Core.Logic.{∥∥₁_elim}
-use Rattle.std.proofs.lemmas.List.{length-set}
 use Rattle.std.proofs.lemmas.List.Sums.{sum_by-set, sum_by-cons, count_by-le-length}
-use Rattle.std.proofs.lemmas.Bool.{cases_order, cases_eq, cases_lt, false≢true}
+use Rattle.std.proofs.lemmas.Bool.{cases_eq, cases_lt, false≢true}
 use Rattle.store.specs.declared.cell.Cell.{Cell}
 use Rattle.store.specs.declared.cell.Cell.TheVariants.{Never, Freed, Taken}
-use Rattle.store.specs.Contents.{Content, Contents, Absent, Named, Bears}
+use Rattle.store.specs.Contents.{Content, Contents, Absent, Named}
 use Rattle.store.specs.Search.{start, cell, Passes, Passed, Search, at_name, at_never, at_end}
-use Rattle.store.specs.Indexed.{Points, Doubled, Once, Reached, Reaches, taken, Paired, Open, Opens}
+use Rattle.store.specs.Indexed.{Points, Once, Reached, Reaches, taken, Paired, Open, Opens}
 use Rattle.store.proofs.Places.{none_some, named_at, bears_at, set_here, set_there, after_put, after_freed}
 use Rattle.store.proofs.Cells.{never_taken, freed_taken, freed_never, same_place, is_taken, not_never, written_cases, written_here, written_there}
 

@@ -1,11 +1,10 @@
 -- Rows in memory, by what they stand for.
-use Rattle.std.proofs.Common.{◌≡◌, ℕ, ◌+◌, ◌<◌, ◌≤◌, true, false, ◌⊎◌, List, length, get_or, set, replicate, is_some, Some, None, Option, sym, refl, ap, ◌∙◌, subst, inl, inr, arith, below_more}
+use Rattle.std.proofs.Common.{◌≡◌, ℕ, ◌+◌, ◌<◌, ◌≤◌, true, false, List, length, get_or, set, replicate, is_some, None, sym, ap, ◌∙◌, subst, arith, below_more}
 use Rattle.std.proofs.lemmas.List.{length-map, get_or-map, map-set, get_or_past, ext_get_or, get_or-replicate, length-replicate}
-use Rattle.std.proofs.lemmas.Bool.{cases_lt}
 use Rattle.store.specs.declared.row.Row.{Row}
-use Rattle.store.specs.Contents.{Content, Contents, Unique, Held, Bears, Named}
+use Rattle.store.specs.Contents.{Unique, Held, Bears, Named}
 use Rattle.store.specs.Rows.{content, contents}
-use Rattle.store.proofs.Places.{set_here, set_there, unique_none, none_some, within, some_is, none_is, named_at, get_or_replicated}
+use Rattle.store.proofs.Places.{set_here, set_there, unique_none, none_some, some_is, none_is, named_at, get_or_replicated}
 
 pub long : (rs : List Row) → length (contents rs) ≡ length rs
 long rs = length-map rs content

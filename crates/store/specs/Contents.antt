@@ -1,5 +1,5 @@
 -- What a store holds: at each of its places a row, or none.
-use Rattle.std.specs.Prelude.{◌≡◌, ℕ, ◌<◌, ◌≤◌, List, length, get_or, Some, None, Option, ◌≢◌, slice_index, slice_index_or, slice_set}
+use Rattle.std.specs.Prelude.{◌≡◌, ℕ, ◌<◌, ◌≤◌, List, length, Some, None, Option, ◌≢◌, slice_index, slice_index_or, slice_set}
 
 -- a row: the name, the size and the cost of a record
 pub record Content : Type 0 where
@@ -15,8 +15,8 @@ Contents = List (Option Content)
 pub record Alike (rows : Contents) (i j : ℕ) : Type 0 where
   pub first : Content
   pub second : Content
-  pub at_i : get_or rows i None ≡ Some first
-  pub at_j : get_or rows j None ≡ Some second
+  pub at_i : slice_index_or rows i None ≡ Some first
+  pub at_j : slice_index_or rows j None ≡ Some second
   pub same : first.name ≡ second.name
 
 -- no name stands at two places
@@ -31,7 +31,7 @@ Bears (Some c) name = c.name ≡ name
 -- the row at a place has this name
 pub record Named (rows : Contents) (place : ℕ) (name : List ℕ) : Type 0 where
   pub row : Content
-  pub here : get_or rows place None ≡ Some row
+  pub here : slice_index_or rows place None ≡ Some row
   pub is : row.name ≡ name
 
 -- no row has this name
@@ -42,12 +42,12 @@ Absent rows name = (i : ℕ) (c : Content) → slice_index_or rows i None ≡ So
 pub record Held (rows : Contents) (place : ℕ) : Type 0 where
   pub within : place < length rows
   pub row : Content
-  pub here : get_or rows place None ≡ Some row
+  pub here : slice_index_or rows place None ≡ Some row
 
 -- a place is free
 pub record Free (rows : Contents) (place : ℕ) : Type 0 where
   pub within : place < length rows
-  pub empty : get_or rows place None ≡ None
+  pub empty : slice_index_or rows place None ≡ None
 
 -- a name has 1 to 128 octets, none of them zero
 pub record GoodName (name : List ℕ) : Type 0 where

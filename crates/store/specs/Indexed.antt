@@ -1,5 +1,5 @@
 -- What ties the cells of a hashed index to its rows.
-use Rattle.std.specs.Prelude.{◌≡◌, ℕ, ◌+◌, ◌%◌, ◌<◌, Bool, true, false, List, length, get_or, is_some, Some, None, count_by, Option, ◌≢◌, slice_index_or, slice_set}
+use Rattle.std.specs.Prelude.{◌≡◌, ℕ, ◌+◌, ◌%◌, ◌<◌, Bool, true, false, List, is_some, Some, None, count_by, Option, ◌≢◌, slice_index_or, slice_set}
 use Rattle.store.specs.declared.cell.Cell.{Cell}
 use Rattle.store.specs.declared.cell.Cell.TheVariants.{Never, Freed, Taken}
 use Rattle.store.specs.Contents.{Content, Contents}
@@ -12,8 +12,8 @@ Points rows cells = (p i : ℕ) → slice_index_or cells p Never ≡ Taken i →
 -- one place is in the cells p and q
 pub record Doubled (cells : List Cell) (p q : ℕ) : Type 0 where
   pub place : ℕ
-  pub at_p : get_or cells p Never ≡ Taken place
-  pub at_q : get_or cells q Never ≡ Taken place
+  pub at_p : slice_index_or cells p Never ≡ Taken place
+  pub at_q : slice_index_or cells q Never ≡ Taken place
 
 -- no place is in two cells
 abbrev pub Once : List Cell → Type 0
@@ -61,5 +61,5 @@ pub record Took (before : List Cell) (name : List ℕ) (place : ℕ) (after : Li
 -- the cell of a place was freed, and no other cell changed
 pub record Gave (before : List Cell) (place : ℕ) (after : List Cell) : Type 0 where
   pub at : ℕ
-  pub here : get_or before at Never ≡ Taken place
+  pub here : slice_index_or before at Never ≡ Taken place
   pub after_is : after ≡ slice_set before at Freed

@@ -1,6 +1,6 @@
 // Lent rows, by place.
-ghost use Rattle.std.specs.Prelude.{◌≡◌, ℕ, ◌<◌, ◌≤◌, Bool, true, false, length, replicate, None as Nothing, Decides, MatchOption, slice_index_or};
-ghost use Rattle.store.specs.Contents.{Content, Bears, Held, Free, Absent, Named, Good};
+ghost use Rattle.std.specs.Prelude.{◌≡◌, ℕ, ◌<◌, false, length, replicate, None as Nothing, Decides, MatchOption, slice_index_or};
+ghost use Rattle.store.specs.Contents.{Bears, Held, Free, Absent, Named, Good};
 ghost use Rattle.store.specs.Rows.{content, contents};
 
 use crate::records::{good_name, good_worth};
@@ -59,7 +59,7 @@ pub fn has_name(rows: &[Row], place: usize, name: &[u8]) -> bool
 
 // A free place for a good record whose name is not held.
 pub fn place_for(rows: &[Row], held: bool, name: &[u8], size: u32, cost: u16) -> Option<usize>
-    ensures { MatchOption result (Good (record { name = name.entry.now; size = size; cost = cost }) → held ≡ false → (i : ℕ) → Free (contents rows.now) i → ⊥) (λ place. Good (record { name = name.entry.now; size = size; cost = cost }) × (held ≡ false) × Free (contents rows.now) place) }
+    ensures { MatchOption result (Good (record { name = name.now; size = size; cost = cost }) → held ≡ false → (i : ℕ) → Free (contents rows.now) i → ⊥) (λ place. Good (record { name = name.now; size = size; cost = cost }) × (held ≡ false) × Free (contents rows.now) place) }
 {
     if held || !good_name(name) || !good_worth(size, cost) {
         return None;

@@ -1,5 +1,5 @@
 // Which records may be held.
-ghost use Rattle.std.specs.Prelude.{◌≡◌, ◌≤◌, length, Decides};
+ghost use Rattle.std.specs.Prelude.{Decides};
 ghost use Rattle.store.specs.Contents.{GoodName, GoodWorth};
 
 // Whether a name has 1 to 128 octets, none of them zero.

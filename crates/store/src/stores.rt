@@ -1,6 +1,6 @@
 // What every store does.
-ghost use Rattle.std.specs.Prelude.{◌≡◌, ℕ, List, length, None as Nothing, MatchOption, MatchResult, slice_index_or, slice_set};
-ghost use Rattle.store.specs.Contents.{Content, Contents, Unique, Named, Absent, Held, Added, Unaddable};
+ghost use Rattle.std.specs.Prelude.{◌≡◌, length, None as Nothing, MatchOption, MatchResult, slice_index_or, slice_set};
+ghost use Rattle.store.specs.Contents.{Contents, Unique, Named, Absent, Held, Added, Unaddable};
 ghost use Rattle.store.specs.Rows.{content};
 
 use crate::refusals::StoreFault;
@@ -21,7 +21,7 @@ pub trait Store {
 
     // A record comes to a free place of the store's choice, which is answered.
     fn add(&mut self, name: &[u8], size: u32, cost: u16) -> Result<usize, StoreFault>
-        ensures { MatchResult result (λ place. Added (rows self.old) (record { name = name.entry.now; size = size; cost = cost }) place (rows self.new)) (λ f. (f ≡ StoreFault.NotAdded) × Unaddable (rows self.old) (record { name = name.entry.now; size = size; cost = cost }) × (self.new ≡ self.old)) };
+        ensures { MatchResult result (λ place. Added (rows self.old) (record { name = name.now; size = size; cost = cost }) place (rows self.new)) (λ f. (f ≡ StoreFault.NotAdded) × Unaddable (rows self.old) (record { name = name.now; size = size; cost = cost }) × (self.new ≡ self.old)) };
 
     // The row at a place leaves.
     fn remove(&mut self, place: usize) -> Result<(), StoreFault>

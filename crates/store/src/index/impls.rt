@@ -1,6 +1,6 @@
 // A hashed index is a store.
 ghost use Rattle.std.specs.Prelude.{◌≡◌, IfOk, None as Nothing, MatchOption, MatchResult, OnOk, slice_index_or, slice_set};
-ghost use Rattle.store.specs.Contents.{Content, Held, Addable, Added, Unaddable};
+ghost use Rattle.store.specs.Contents.{Held, Addable, Added, Unaddable};
 ghost use Rattle.store.specs.Indexed.{Took, Gave};
 ghost use Rattle.store.specs.Rows.{contents};
 
@@ -12,7 +12,7 @@ use crate::stores::Store;
 impl HashedIndex<'_> {
     // A free place for a record that may be added.
     fn place_for(&self, name: &[u8], size: u32, cost: u16) -> Option<usize>
-        ensures { MatchOption result (Unaddable (contents self.now.parts.rows.now) (record { name = name.entry.now; size = size; cost = cost })) (λ place. Addable (contents self.now.parts.rows.now) (record { name = name.entry.now; size = size; cost = cost }) place) }
+        ensures { MatchOption result (Unaddable (contents self.now.parts.rows.now) (record { name = name.now; size = size; cost = cost })) (λ place. Addable (contents self.now.parts.rows.now) (record { name = name.now; size = size; cost = cost }) place) }
     {
         let held = self.find(name).is_some();
         self.parts.place_for(held, name, size, cost)
@@ -32,7 +32,7 @@ impl Store for HashedIndex<'_> {
 
     // The place goes into the first cell, on the way of the search for the name, that no place is in.
     fn add(&mut self, name: &[u8], size: u32, cost: u16) -> Result<usize, StoreFault>
-        ensures rows { MatchResult result (λ place. Added (contents self.old.parts.rows.now) (record { name = name.entry.now; size = size; cost = cost }) place (contents self.new.parts.rows.now)) (λ f. (f ≡ StoreFault.NotAdded) × Unaddable (contents self.old.parts.rows.now) (record { name = name.entry.now; size = size; cost = cost }) × (self.new ≡ self.old)) }
+        ensures rows { MatchResult result (λ place. Added (contents self.old.parts.rows.now) (record { name = name.now; size = size; cost = cost }) place (contents self.new.parts.rows.now)) (λ f. (f ≡ StoreFault.NotAdded) × Unaddable (contents self.old.parts.rows.now) (record { name = name.now; size = size; cost = cost }) × (self.new ≡ self.old)) }
         ensures cells { IfOk result (λ place. Took self.old.parts.cells.now name.now place self.new.parts.cells.now) }
     {
         let Some(place) = self.place_for(name, size, cost) else {

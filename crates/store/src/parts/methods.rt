@@ -1,8 +1,8 @@
 // Cells searched, taken and freed.
 ghost use Rattle.std.specs.Prelude.{◌≡◌, ℕ, ◌+◌, ◌%◌, ◌<◌, ◌≤◌, false, length, Some as Just, None as Nothing, Decides, MatchOption, ◌≢◌, slice_index_or, slice_set};
 ghost use Rattle.store.specs.declared.cell.Cell.TheVariants.{Never as Unused, Freed as Emptied, Taken as Placed};
-ghost use Rattle.store.specs.Contents.{Content, Held, Free, Good};
-ghost use Rattle.store.specs.Indexed.{taken, Opens};
+ghost use Rattle.store.specs.Contents.{Held, Free, Good};
+ghost use Rattle.store.specs.Indexed.{Opens};
 ghost use Rattle.store.specs.Rows.{content, contents};
 ghost use Rattle.store.specs.Search.{start, cell, Looks, Search};
 
@@ -43,7 +43,7 @@ impl Parts<'_> {
 
     // A free place for a good record whose name is not held.
     pub(crate) fn place_for(&self, held: bool, name: &[u8], size: u32, cost: u16) -> Option<usize>
-        ensures { MatchOption result (Good (record { name = name.entry.now; size = size; cost = cost }) → held ≡ false → (i : ℕ) → Free (contents self.now.rows.now) i → ⊥) (λ place. Good (record { name = name.entry.now; size = size; cost = cost }) × (held ≡ false) × Free (contents self.now.rows.now) place) }
+        ensures { MatchOption result (Good (record { name = name.now; size = size; cost = cost }) → held ≡ false → (i : ℕ) → Free (contents self.now.rows.now) i → ⊥) (λ place. Good (record { name = name.now; size = size; cost = cost }) × (held ≡ false) × Free (contents self.now.rows.now) place) }
     {
         place_for(self.rows, held, name, size, cost)
     }
@@ -135,9 +135,11 @@ impl Parts<'_> {
 
     // A record comes to a place, and the place into a cell.
     pub(crate) fn put(&mut self, at: usize, place: usize, name: &[u8], size: u32, cost: u16)
-        requires at_in_bounds { (at < length self.old.cells.now) × (place < length self.old.rows.now) }
-        requires place_bound { (place < 65536) × (length name.now ≤ 128) }
-        ensures rows { contents self.new.rows.now ≡ slice_set (contents self.old.rows.now) place (Just (record { name = name.entry.now; size = size; cost = cost })) }
+        requires cell_within { at < length self.old.cells.now }
+        requires row_within { place < length self.old.rows.now }
+        requires place_fits { place < 65536 }
+        requires name_short { length name.now ≤ 128 }
+        ensures rows { contents self.new.rows.now ≡ slice_set (contents self.old.rows.now) place (Just (record { name = name.now; size = size; cost = cost })) }
         ensures cells { self.new.cells.now ≡ slice_set self.old.cells.now at (Placed place) }
     {
         self.rows[place] = Row::filled(name, size, cost);
@@ -146,7 +148,8 @@ impl Parts<'_> {
 
     // The record at a place leaves, and its cell is freed.
     pub(crate) fn release(&mut self, at: usize, place: usize)
-        requires { (at < length self.old.cells.now) × (place < length self.old.rows.now) }
+        requires cell_within { at < length self.old.cells.now }
+        requires row_within { place < length self.old.rows.now }
         ensures rows { contents self.new.rows.now ≡ slice_set (contents self.old.rows.now) place Nothing }
         ensures cells { self.new.cells.now ≡ slice_set self.old.cells.now at Emptied }
     {

@@ -1,5 +1,5 @@
 // Rows made and read.
-ghost use Rattle.std.specs.Prelude.{◌≡◌, ◌≤◌, Bool, length, take, is_some, Some as Just, None as Nothing, Decides};
+ghost use Rattle.std.specs.Prelude.{◌≡◌, ◌≤◌, length, take, is_some, Some as Just, None as Nothing, Decides};
 ghost use Rattle.store.specs.Contents.{Content, Bears};
 ghost use Rattle.store.specs.Rows.{content};
 
@@ -22,7 +22,7 @@ impl Row {
     // A row that is used.
     pub(crate) fn filled(name: &[u8], size: u32, cost: u16) -> Row
         requires { length name.now ≤ 128 }
-        ensures { content result ≡ Just (record { name = name.entry.now; size = size; cost = cost }) }
+        ensures { content result ≡ Just (record { name = name.now; size = size; cost = cost }) }
     {
         let mut octets = [0; 128];
         octets[0..name.len()].copy_from_slice(name);

@@ -1,6 +1,6 @@
 // A table is a store.
 ghost use Rattle.std.specs.Prelude.{◌≡◌, None as Nothing, MatchOption, slice_index_or};
-ghost use Rattle.store.specs.Contents.{Content, Held, Addable, Unaddable};
+ghost use Rattle.store.specs.Contents.{Held, Addable, Unaddable};
 ghost use Rattle.store.specs.Rows.{content, contents};
 
 use super::Table;
@@ -12,7 +12,7 @@ use crate::stores::Store;
 impl Table<'_> {
     // A free place for a record that may be added.
     fn place_for(&self, name: &[u8], size: u32, cost: u16) -> Option<usize>
-        ensures { MatchOption result (Unaddable (contents self.now.rows.now) (record { name = name.entry.now; size = size; cost = cost })) (λ place. Addable (contents self.now.rows.now) (record { name = name.entry.now; size = size; cost = cost }) place) }
+        ensures { MatchOption result (Unaddable (contents self.now.rows.now) (record { name = name.now; size = size; cost = cost })) (λ place. Addable (contents self.now.rows.now) (record { name = name.now; size = size; cost = cost }) place) }
     {
         let held = self.find(name).is_some();
         place_for(self.rows, held, name, size, cost)

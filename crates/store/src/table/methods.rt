@@ -1,5 +1,5 @@
 // A table begun.
-ghost use Rattle.std.specs.Prelude.{◌≡◌, ◌≤◌, length, replicate, None as Nothing, MatchResult};
+ghost use Rattle.std.specs.Prelude.{◌≡◌, length, replicate, None as Nothing, MatchResult};
 ghost use Rattle.store.specs.Beginning.{Allowed, Unbegun};
 ghost use Rattle.store.specs.Rows.{contents};
 

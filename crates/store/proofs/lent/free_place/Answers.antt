@@ -1,4 +1,4 @@
-use Rattle.std.proofs.Common.{◌≡◌, ◌<◌, length, is_some, sym, ap, ◌∙◌, arith, below_more}
+use Rattle.std.proofs.Common.{◌<◌, length, is_some, sym, ap, ◌∙◌, arith, below_more}
 use Rattle.store.specs.Rows.{content}
 use Rattle.store.proofs.Memory as memory
 use Rattle.store.proofs.Places.{none_some}

@@ -1,4 +1,4 @@
-use Rattle.std.proofs.Common.{◌≡◌, ◌<◌, length, sym, refl, ap, ◌∙◌, subst, true≢false, arith, below_more}
+use Rattle.std.proofs.Common.{sym, refl, ap, ◌∙◌, subst, true≢false, arith, below_more}
 use Rattle.store.specs.Contents.{Bears}
 use Rattle.store.specs.Rows.{content, contents}
 use Rattle.store.proofs.Memory as memory

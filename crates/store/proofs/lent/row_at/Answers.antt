@@ -1,4 +1,4 @@
-use Rattle.std.proofs.Common.{◌≡◌, ◌<◌, length, get_or, is_some, sym, ap, ◌∙◌, arith}
+use Rattle.std.proofs.Common.{◌<◌, length, is_some, sym, ap, ◌∙◌, arith}
 use Rattle.store.specs.Rows.{content}
 use Rattle.store.proofs.Memory as memory
 use Rattle.store.proofs.lent.row_at.Goals as goal

@@ -6,30 +6,22 @@ use Rattle.store.proofs.Memory.{none_at, empty_unique}
 use Rattle.store.proofs.Places.{get_or_replicated}
 use Rattle.store.proofs.index.HashedIndex.new.Goals as goal
 
-pub invariant-of-result : goal.invariant-of-result
-invariant-of-result c =
+pub invariant_of-result : goal.invariant_of-result
+invariant_of-result c =
     let rs = c.clear_rows.new.rows in
     let cells = c.clear_cells.new.cells in
     let none = none_at rs (length c.args.rows.now) c.clear_rows.ensures in
-    let unused : (p : ℕ) → get_or cells p Never ≡ Never = λ p. ap (λ l. get_or l p Never) c.clear_cells.ensures ∙ get_or_replicated Never (length c.args.cells.now) p in (
-      omega arith,
-      (
-        omega arith,
-        (
-          empty_unique rs none,
-          (
-            omega arith,
-            (
-              empty_points (contents rs) cells none unused,
-              (
-                empty_once (contents rs) cells none unused,
-                (empty_reaches (contents rs) cells none unused, (empty_paired (contents rs) cells none unused, tt)),
-              ),
-            ),
-          ),
-        ),
-      ),
-    )
+    let unused : (p : ℕ) → get_or cells p Never ≡ Never = λ p. ap (λ l. get_or l p Never) c.clear_cells.ensures ∙ get_or_replicated Never (length c.args.cells.now) p in
+    record {
+      some = omega arith;
+      most = omega arith;
+      unique = empty_unique rs none;
+      all = omega arith;
+      points = empty_points (contents rs) cells none unused;
+      once = empty_once (contents rs) cells none unused;
+      reaches = empty_reaches (contents rs) cells none unused;
+      paired = empty_paired (contents rs) cells none unused;
+    }
 
 pub returns : goal.returns
 returns c =

@@ -1,7 +1,6 @@
-use Rattle.std.proofs.Common.{◌≡◌, ℕ, ◌+◌, ◌%◌, ◌<◌, get_or, sym, ap, ◌∙◌, subst, arith}
+use Rattle.std.proofs.Common.{◌+◌, ◌%◌, get_or, sym, ap, ◌∙◌, arith}
 use Rattle.store.specs.declared.cell.Cell.TheVariants.{Never}
-use Rattle.store.specs.Rows.{contents}
-use Rattle.store.specs.Search.{start, cell, Passed, at_name, at_never, at_end}
+use Rattle.store.specs.Search.{at_name, at_never, at_end}
 use Rattle.store.proofs.parts.Parts.search.Goals as goal
 
 pub returns-in-Ends : goal.returns-in-Ends

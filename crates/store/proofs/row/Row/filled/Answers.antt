@@ -1,6 +1,5 @@
 use Rattle.std.proofs.Common.{ℕ, List, length, Some, ap, ◌∙◌}
 use Rattle.std.proofs.lemmas.List.{take_at}
-use Rattle.store.specs.Contents.{Content}
 use Rattle.store.proofs.row.Row.filled.Goals as goal
 
 pub returns : goal.returns

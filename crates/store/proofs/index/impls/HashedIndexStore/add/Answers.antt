@@ -1,4 +1,4 @@
-use Rattle.std.proofs.Common.{◌≡◌, ◌<◌, ◌≤◌, length, set, Some, sym, refl, ap, ◌∙◌, subst, arith}
+use Rattle.std.proofs.Common.{◌≡◌, ◌≤◌, length, Some, sym, ap, ◌∙◌, subst, arith}
 use Rattle.std.proofs.lemmas.List.{length-set}
 use Rattle.store.specs.declared.cell.Cell.TheVariants.{Taken}
 use Rattle.store.specs.Contents.{Content, Unique}
@@ -20,10 +20,10 @@ put-requires c =
     let all = s.all in
     let at = vacant.at_is in
     let short = may.good.named.short in
-    ((omega arith, omega arith), (omega arith, omega arith))
+    record { cell_within = omega arith; row_within = omega arith; place_fits = omega arith; name_short = omega arith }
 
-pub invariant-of-self : goal.invariant-of-self
-invariant-of-self c =
+pub invariant_of-self : goal.invariant_of-self
+invariant_of-self c =
     let s = c.args.self.now in
     let may = c.in-Some.ensures in
     let vacant = c.in-Some-open_cell.ensures in
@@ -42,28 +42,17 @@ invariant-of-self c =
     let same' : length c.put.new.self.cells.now ≡ length cells = ap length cells_are ∙ length-set cells at (Taken place) in
     let all = s.all in
     let some = s.some in
-    let most = s.most in (
-      omega arith,
-      (
-        omega arith,
-        (
-          subst Unique (sym rows_are) (unique_put rows place new inside may.absent s.unique),
-          (
-            omega arith,
-            (
-              moved Points rows_are cells_are (put_points rows cells place at new all free inside vacant s.points s.once s.reaches s.paired),
-              (
-                subst Once (sym cells_are) (put_once rows cells place at new all free inside vacant s.points s.once s.reaches s.paired),
-                (
-                  moved Reaches rows_are cells_are (put_reaches rows cells place at new all free inside vacant s.points s.once s.reaches s.paired),
-                  (moved Paired rows_are cells_are (put_paired rows cells place at new all free inside vacant s.points s.once s.reaches s.paired), tt),
-                ),
-              ),
-            ),
-          ),
-        ),
-      ),
-    )
+    let most = s.most in
+    record {
+      some = omega arith;
+      most = omega arith;
+      unique = subst Unique (sym rows_are) (unique_put rows place new inside may.absent s.unique);
+      all = omega arith;
+      points = moved Points rows_are cells_are (put_points rows cells place at new all free inside vacant s.points s.once s.reaches s.paired);
+      once = subst Once (sym cells_are) (put_once rows cells place at new all free inside vacant s.points s.once s.reaches s.paired);
+      reaches = moved Reaches rows_are cells_are (put_reaches rows cells place at new all free inside vacant s.points s.once s.reaches s.paired);
+      paired = moved Paired rows_are cells_are (put_paired rows cells place at new all free inside vacant s.points s.once s.reaches s.paired);
+    }
 
 pub returns-in-None : goal.returns-in-None
 returns-in-None c =

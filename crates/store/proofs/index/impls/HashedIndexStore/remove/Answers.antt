@@ -1,4 +1,4 @@
-use Rattle.std.proofs.Common.{◌≡◌, ◌<◌, ◌≤◌, length, get_or, set, Some, None, sym, refl, ap, ◌∙◌, subst, arith}
+use Rattle.std.proofs.Common.{◌≡◌, ◌<◌, length, Some, None, sym, ap, ◌∙◌, subst, arith}
 use Rattle.std.proofs.lemmas.List.{length-set}
 use Rattle.store.specs.declared.cell.Cell.TheVariants.{Freed}
 use Rattle.store.specs.Contents.{Unique}
@@ -17,10 +17,10 @@ release-requires c =
     let l = memory.long s.parts.rows.now in
     let all = s.all in
     let short = c.in-Some-cell_of.ensures.0 in
-    (omega arith, omega arith)
+    record { cell_within = omega arith; row_within = omega arith }
 
-pub invariant-of-self : goal.invariant-of-self
-invariant-of-self c =
+pub invariant_of-self : goal.invariant_of-self
+invariant_of-self c =
     let s = c.args.self.now in
     let held = c.in-Some.ensures.0 in
     let found = c.in-Some-cell_of.ensures in
@@ -38,28 +38,17 @@ invariant-of-self c =
     let same' : length c.release.new.self.cells.now ≡ length cells = ap length cells_are ∙ length-set cells at Freed in
     let all = s.all in
     let some = s.some in
-    let most = s.most in (
-      omega arith,
-      (
-        omega arith,
-        (
-          subst Unique (sym rows_are) (unique_freed rows place s.unique),
-          (
-            omega arith,
-            (
-              moved Points rows_are cells_are (freed_points rows cells place at held.row held.here inside within found.1 s.points s.once s.reaches s.paired),
-              (
-                subst Once (sym cells_are) (freed_once rows cells place at held.row held.here inside within found.1 s.points s.once s.reaches s.paired),
-                (
-                  moved Reaches rows_are cells_are (freed_reaches rows cells place at held.row held.here inside within found.1 s.points s.once s.reaches s.paired),
-                  (moved Paired rows_are cells_are (freed_paired rows cells place at held.row held.here inside within found.1 s.points s.once s.reaches s.paired), tt),
-                ),
-              ),
-            ),
-          ),
-        ),
-      ),
-    )
+    let most = s.most in
+    record {
+      some = omega arith;
+      most = omega arith;
+      unique = subst Unique (sym rows_are) (unique_freed rows place s.unique);
+      all = omega arith;
+      points = moved Points rows_are cells_are (freed_points rows cells place at held.row held.here inside within found.1 s.points s.once s.reaches s.paired);
+      once = subst Once (sym cells_are) (freed_once rows cells place at held.row held.here inside within found.1 s.points s.once s.reaches s.paired);
+      reaches = moved Reaches rows_are cells_are (freed_reaches rows cells place at held.row held.here inside within found.1 s.points s.once s.reaches s.paired);
+      paired = moved Paired rows_are cells_are (freed_paired rows cells place at held.row held.here inside within found.1 s.points s.once s.reaches s.paired);
+    }
 
 pub returns-in-None : goal.returns-in-None
 returns-in-None c =

@@ -1,4 +1,4 @@
-use Rattle.std.proofs.Common.{◌≡◌, length, set, None, sym, ap, ◌∙◌, subst, arith}
+use Rattle.std.proofs.Common.{◌≡◌, set, None, sym, ap, ◌∙◌, subst, arith}
 use Rattle.std.proofs.lemmas.List.{length-set}
 use Rattle.store.specs.Contents.{Unique}
 use Rattle.store.specs.Rows.{contents}
@@ -9,22 +9,26 @@ use Rattle.store.proofs.table.impls.TableStore.remove.Goals as goal
 pub bounds-self-place : goal.bounds-self-place
 bounds-self-place c = let held = c.in-Some.ensures.0 in let w = held.within in let l = memory.long c.args.self.now.rows.now in omega arith
 
-pub offset-bounds-self-place : goal.offset-bounds-self-place
-offset-bounds-self-place c =
+pub offset_bounds-self-place : goal.offset_bounds-self-place
+offset_bounds-self-place c =
     let held = c.in-Some.ensures.0 in
     let w = held.within in
     let l = memory.long c.args.self.now.rows.now in
     let most = c.args.self.now.most in
     omega arith
 
-pub invariant-of-self : goal.invariant-of-self
-invariant-of-self c =
+pub invariant_of-self : goal.invariant_of-self
+invariant_of-self c =
     let rs = c.args.self.now.rows.now in
     let place = c.args.place in
     let row = c.free.result in
     let same = length-set rs place row in
     let is : contents (set rs place row) ≡ set (contents rs) place None = memory.written rs place row ∙ ap (set (contents rs) place) c.free.ensures in
-    (omega arith, (omega arith, (subst Unique (sym is) (unique_freed (contents rs) place c.args.self.now.unique), tt)))
+    record {
+      some = omega arith;
+      most = omega arith;
+      unique = subst Unique (sym is) (unique_freed (contents rs) place c.args.self.now.unique);
+    }
 
 pub returns-in-Some : goal.returns-in-Some
 returns-in-Some c =
