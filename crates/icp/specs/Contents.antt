@@ -1,5 +1,5 @@
 -- What messages say, and the one way in which each is written.
-use Rattle.std.specs.Prelude.{ℕ, ◌+◌, ◌-◌, ◌*◌, ◌^◌, Bool, cond, List, [], ◌∷◌, ◌++◌, length}
+use Rattle.std.specs.Prelude.{ℕ, ◌+◌, ◌-◌, cond, List, [], ◌∷◌, ◌++◌, length}
 use Rattle.std.specs.List.{flat_map}
 use Rattle.icp.specs.declared.contents.Change.{Change}
 use Rattle.icp.specs.Numbers.{octets2, octets4}

@@ -30,13 +30,13 @@ fn has_value(octet: u8, k: u32) -> bool
 
 // Writes an entry for each of the eight positions of octet i in which two summaries differ, and answers where the next one goes.
 fn put_octet(out: &mut [u8], at: usize, before: &[u8], after: &[u8], i: usize) -> usize
-    requires i_in_bounds { i < length before.now }
-    requires i_in_bounds_2 { i < length after.now }
-    requires i_bound { i < 8192 }
-    requires at_value { at ≡ 32 + 4 * length (changed before.now after.now (8 * i)) }
-    requires i_in_bounds_3 { 32 + 4 * length (changed before.now after.now (8 * i + 8)) ≤ length out.old }
-    ensures value { result ≡ 32 + 4 * length (changed before.now after.now (8 * i + 8)) }
-    ensures by_index { (xs : List ℕ) → 32 ≤ length xs → out.old ≡ listed xs before.now after.now (8 * i) → out.new ≡ listed xs before.now after.now (8 * i + 8) }
+    requires in_before { i < length before.now }
+    requires in_after { i < length after.now }
+    requires small { i < 8192 }
+    requires place { at ≡ 32 + 4 * length (changed before.now after.now (8 * i)) }
+    requires room { 32 + 4 * length (changed before.now after.now (8 * i + 8)) ≤ length out.old }
+    ensures next { result ≡ 32 + 4 * length (changed before.now after.now (8 * i + 8)) }
+    ensures written { (xs : List ℕ) → 32 ≤ length xs → out.old ≡ listed xs before.now after.now (8 * i) → out.new ≡ listed xs before.now after.now (8 * i + 8) }
 {
     let mut next = at;
     for k in 0..8 {
@@ -52,9 +52,9 @@ fn put_octet(out: &mut [u8], at: usize, before: &[u8], after: &[u8], i: usize) -
 
 // Writes, behind the first 32 octets, an entry for each position in which two summaries differ.
 fn put_changes(out: &mut [u8], before: &[u8], after: &[u8])
-    requires before_len { length before.now ≡ length after.now }
-    requires after_len_bound { length after.now ≤ 8192 }
-    requires after_in_bounds { 32 + 4 * length (changed before.now after.now (8 * length after.now)) ≤ length out.old }
+    requires same_length { length before.now ≡ length after.now }
+    requires small { length after.now ≤ 8192 }
+    requires room { 32 + 4 * length (changed before.now after.now (8 * length after.now)) ≤ length out.old }
     ensures { out.new ≡ listed out.old before.now after.now (8 * length after.now) }
 {
     let mut at = 32;
@@ -96,11 +96,11 @@ fn put_list(
     before: &Summary,
     after: &Summary,
 ) -> usize
-    requires le_version { 1 ≤ version }
-    requires positions_value { before.now.size.positions ≡ after.now.size.positions }
-    requires count_value { count ≡ tally (differs before.now.octets.items after.now.octets.items) after.now.size.positions }
-    requires count_bound { 4 * count < after.now.size.positions / 8 }
-    requires count_in_bounds { 32 + 4 * count ≤ length out.old }
+    requires some_version { 1 ≤ version }
+    requires same_size { before.now.size.positions ≡ after.now.size.positions }
+    requires counted { count ≡ tally (differs before.now.octets.items after.now.octets.items) after.now.size.positions }
+    requires short { 4 * count < after.now.size.positions / 8 }
+    requires room { 32 + 4 * count ≤ length out.old }
     ensures { Written after.now.size.positions (changes sender version (changed before.now.octets.items after.now.octets.items after.now.size.positions)) out.old out.new result }
 {
     let length = 32 + 4 * count as usize;

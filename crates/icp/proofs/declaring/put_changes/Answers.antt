@@ -13,7 +13,7 @@ pub put_octet-at-requires : goal.put_octet-at-requires
 put_octet-at-requires c =
     let i = c.loop-i.i in
     let room = changed_grows c.args.before.now c.args.after.now (8 * i + 8) (8 * length c.args.after.now) (omega arith) in
-    (omega arith, omega arith, omega arith, c.loop-i.invariant.0, omega arith)
+    record { in_before = omega arith; in_after = omega arith; small = omega arith; place = c.loop-i.invariant.0; room = omega arith }
 
 pub loop-i-preserved : goal.loop-i-preserved
 loop-i-preserved c =
@@ -26,10 +26,10 @@ loop-i-preserved c =
     let Q : List ℕ → ℕ → ℕ → Type 0 = λ out at z. (at ≡ 32 + 4 * length (changed a b z)) × (out ≡ listed xs a b z) in
     let both : Q c.if-before-i.out c.if-before-i.at (8 * i + 8) =
     elim c.if-before-i.branch [
-      | then-before-i w ↦ (w.at_is ∙ w.put_octet-at.ensures.0, w.out-is ∙ w.put_octet-at.ensures.1 xs room c.loop-i.invariant.1)
+      | then-before-i w ↦ (w.at-is ∙ w.put_octet-at.ensures.next, w.out-is ∙ w.put_octet-at.ensures.written xs room c.loop-i.invariant.1)
       | else-before-i w ↦
           let same = changed_octet a b i w.if-before-i.false in (
-            w.at_is ∙ c.loop-i.invariant.0 ∙ sym (ap (λ es. 32 + 4 * length es) same),
+            w.at-is ∙ c.loop-i.invariant.0 ∙ sym (ap (λ es. 32 + 4 * length es) same),
             w.out-is ∙ c.loop-i.invariant.1 ∙ sym (ap (λ es. begins (take 32 xs ++ flat_map entry_octets es) xs) same),
           )
     ] in

@@ -1,4 +1,4 @@
-use Rattle.std.proofs.Common.{◌≡◌, ◌++◌, length, sym, ap, ◌∙◌, arith}
+use Rattle.std.proofs.Common.{◌≡◌, ◌++◌, length, sym, ap, ◌∙◌}
 use Rattle.icp.specs.Writing.{begins}
 use Rattle.icp.proofs.Puts.{put_on}
 use Rattle.icp.proofs.Messages.{put_first}

@@ -1,4 +1,4 @@
-use Rattle.std.proofs.Common.{◌≡◌, ℕ, ◌+◌, ◌*◌, ◌≤◌, ◌++◌, length, vec_items, vec_len, sym, refl, ap, ◌∙◌, subst, arith}
+use Rattle.std.proofs.Common.{◌≡◌, ◌+◌, ◌*◌, ◌++◌, length, vec_items, sym, refl, ap, ◌∙◌, arith}
 use Rattle.icp.specs.Contents.{filter_fields}
 use Rattle.icp.specs.Writing.{begins, changed, listed}
 use Rattle.icp.proofs.Changes.{length_changed}
@@ -20,8 +20,8 @@ put_changes-requires c =
     let y = ap length c.octets-2.ensures in
     let all : 8 * length c.octets-2.result.now ≡ m = omega arith in
     let same : length (changed c.octets.result.now c.octets-2.result.now (8 * length c.octets-2.result.now)) ≡ c.args.count =
-    (λ j. length (changed (c.octets.ensures j) (c.octets-2.ensures j) (all j))) ∙ length_changed a b m ∙ sym c.requires.2 in
-    (omega arith, omega (arith, t.size.most), omega arith)
+    (λ j. length (changed (c.octets.ensures j) (c.octets-2.ensures j) (all j))) ∙ length_changed a b m ∙ sym c.requires.counted in
+    record { same_length = omega arith; small = omega (arith, t.size.most); room = omega arith }
 
 pub returns : goal.returns
 returns c =
@@ -35,6 +35,6 @@ returns c =
     let all : 8 * length c.octets-2.result.now ≡ m = omega arith in
     let sized : c.positions.result ≡ m = c.positions.ensures ∙ ap (λ z. z.positions) c.size.ensures in
     list_written m c.args.sender c.args.version (32 + 4 * c.args.count) c.header-head.result c.args.out.now c.put_head.new.out c.put_changes.new.out a b c.args.count
-    c.header-head.ensures (c.requires.2 ∙ sym (length_changed a b m)) refl
+    c.header-head.ensures (c.requires.counted ∙ sym (length_changed a b m)) refl
     (c.put_head.ensures ∙ ap (λ p. begins (c.header-head.result ++ filter_fields p c.args.count) c.args.out.now) sized)
     (c.put_changes.ensures ∙ (λ j. listed c.put_head.new.out (c.octets.ensures j) (c.octets-2.ensures j) (all j)))

@@ -1,7 +1,6 @@
-use Rattle.std.proofs.Common.{◌≡◌, ℕ, ◌+◌, ◌*◌, ◌≤◌, true, false, List, length, sym, ap, ◌∙◌, subst, arith}
+use Rattle.std.proofs.Common.{◌≡◌, ℕ, ◌+◌, ◌*◌, ◌≤◌, true, List, length, sym, ap, ◌∙◌, subst, arith}
 use Rattle.filter.specs.Summaries.{differs}
 use Rattle.filter.proofs.Octets.{bit_at}
-use Rattle.icp.specs.declared.contents.Change.{Change}
 use Rattle.icp.specs.Writing.{changed, listed}
 use Rattle.icp.proofs.Changes.{longer, changed_grows, changed_few, tested, step_more, step_same}
 use Rattle.icp.proofs.declaring.put_octet.Goals as goal

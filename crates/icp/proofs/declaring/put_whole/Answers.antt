@@ -1,5 +1,5 @@
-use Rattle.std.proofs.Common.{◌≡◌, ◌+◌, ◌/◌, ◌++◌, length, vec_items, vec_len, sym, refl, ap, ◌∙◌, arith}
-use Rattle.icp.specs.Contents.{header, filter_fields}
+use Rattle.std.proofs.Common.{◌≡◌, ◌+◌, ◌++◌, length, vec_items, ap, ◌∙◌, arith}
+use Rattle.icp.specs.Contents.{filter_fields}
 use Rattle.icp.specs.Writing.{begins, put_at}
 use Rattle.icp.proofs.Messages.{whole_written}
 use Rattle.icp.proofs.declaring.put_whole.Goals as goal

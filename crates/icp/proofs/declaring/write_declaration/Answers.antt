@@ -1,4 +1,4 @@
-use Rattle.std.proofs.Common.{◌≡◌, ◌+◌, ◌/◌, ◌≤◌, true, cond, length, None, vec_items, sym, ap, ◌∙◌, subst, arith}
+use Rattle.std.proofs.Common.{◌+◌, ◌/◌, ◌≤◌, cond, length, None, vec_items, sym, ap, subst, arith}
 use Rattle.std.proofs.lemmas.Bool.{ne_eqb, le-ltb}
 use Rattle.icp.specs.declared.refusals.MessageFault.TheVariants.{LastVersion, Output}
 use Rattle.icp.specs.Contents.{changes, whole}

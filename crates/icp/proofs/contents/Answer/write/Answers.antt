@@ -1,4 +1,4 @@
-use Rattle.std.proofs.Common.{◌≡◌, length, Some, None}
+use Rattle.std.proofs.Common.{length, None}
 use Rattle.std.proofs.lemmas.Bool.{cond-false, le-ltb}
 use Rattle.icp.proofs.Messages.{answer_written}
 use Rattle.icp.proofs.contents.Answer.write.Goals as goal
