@@ -1,14 +1,13 @@
 -- The changes between two summaries turn the first into the second.
-use Rattle.std.proofs.Common.{◌≡◌, ℕ, zero, suc, ◌+◌, ◌*◌, ◌/◌, ◌<◌, ◌≤◌, Bool, true, false, cond, not, ◌&&◌, eqb, ltb, leb, List, [], ◌∷◌, ◌++◌, length, sym, refl, ap, ◌∙◌, subst, inl, inr, arith}
+use Rattle.std.proofs.Common.{◌≡◌, ℕ, zero, suc, ◌+◌, ◌*◌, ◌/◌, ◌<◌, ◌≤◌, Bool, true, false, cond, not, ◌&&◌, eqb, ltb, leb, List, [], ◌∷◌, ◌++◌, sym, refl, ap, ◌∙◌, subst, inl, inr, arith}
 use Rattle.std.specs.List.{AllByRecursion}
-use Rattle.std.proofs.lemmas.Bool.{and_from, le-leb, lt-ltb, eq-eqb, ne_eqb, cases_eq, cond_both, ltb-true, and_parts}
+use Rattle.std.proofs.lemmas.Bool.{and_from, le-leb, lt-ltb, eq-eqb, ne_eqb, cases_eq, ltb-true, and_parts}
 use Rattle.filter.specs.Summaries.{bit, differs, tally}
 use Rattle.icp.specs.declared.contents.Change.{Change}
-use Rattle.opening.specs.declared.opener.Opener.{Opener}
 use Rattle.icp.specs.Contents.{changes, whole}
 use Rattle.opening.specs.Reading.{rises}
 use Rattle.icp.specs.Writing.{changed, listable}
-use Rattle.opening.specs.Laws.{value_after, Proper, Entries, ChangesApply, ChangesDiffer, DeclaresProperly}
+use Rattle.opening.specs.Laws.{value_after, Proper, ChangesApply, ChangesDiffer, DeclaresProperly}
 use Rattle.icp.proofs.Changes.{item, length_changed}
 
 module _ (a b : List ℕ) where

@@ -1,9 +1,9 @@
 -- What was written is opened, and says what was written.
-use Rattle.std.proofs.Common.{◌≡◌, ℕ, zero, suc, ◌+◌, ◌-◌, ◌*◌, ◌/◌, ◌%◌, ◌^◌, ◌<◌, ◌≤◌, Bool, true, false, cond, not, ◌&&◌, ◌||◌, eqb, ltb, leb, List, [], ◌∷◌, ◌++◌, length, get_or, take, drop, None, Option, sym, refl, ap, ◌∙◌, arith, length-append}
+use Rattle.std.proofs.Common.{◌≡◌, ℕ, ◌+◌, ◌-◌, ◌*◌, ◌/◌, ◌%◌, ◌^◌, ◌<◌, ◌≤◌, Bool, true, false, cond, not, ◌&&◌, ◌||◌, eqb, ltb, leb, List, [], ◌∷◌, ◌++◌, length, get_or, take, drop, None, Option, sym, refl, ap, ◌∙◌, arith, length-append}
 use Rattle.std.specs.List.{flat_map}
 use Rattle.std.specs.Str.{bytes_eq}
 use Rattle.std.proofs.lemmas.Slice.Eq.{bytes_eq-Decides}
-use Rattle.std.proofs.lemmas.List.{take_at, get_or_at, length_push}
+use Rattle.std.proofs.lemmas.List.{take_at, get_or_at}
 use Rattle.std.proofs.lemmas.Bool.{or_from, not_from_true, le-ltb, lt-ltb, eq-eqb, ne_eqb, and_parts, leb-true, ltb-true, le-leb, lt-leb}
 use Rattle.icp.specs.declared.contents.Change.{Change}
 use Rattle.opening.specs.declared.opener.Opener.{Opener}
@@ -12,11 +12,11 @@ use Rattle.opening.specs.declared.opener.Call.TheVariants.{Update, Answer, Query
 use Rattle.icp.specs.declared.refusals.MessageFault.{MessageFault}
 use Rattle.icp.specs.declared.refusals.MessageFault.TheVariants as fault
 use Rattle.icp.specs.Numbers.{octets4, number4}
-use Rattle.icp.specs.Contents.{Content, changes, whole, acknowledgement, call, query, hit, miss, header, filter_fields, entry_octets, text, body_of, written}
+use Rattle.icp.specs.Contents.{changes, whole, acknowledgement, call, query, hit, miss, header, filter_fields, entry_octets, text, written}
 use Rattle.opening.specs.Reading.{least, stranger, wrong_length, wrong_header, wrong_sender, wrong_filter, wrong_body, wrong_version, wrong_entries, functions_in, bits_in, positions_in, count_in, body_refusal, wrong_text, other_query, opens, header_refusal, update_refusal, answer_refusal, query_refusal, reply_refusal, length_in, request_in, data_in, sender_in, opcode_in, change, entries_in, rises, all_but_last}
 use Rattle.icp.specs.Names.{nameable}
 use Rattle.icp.specs.Faults.{refuse}
-use Rattle.opening.specs.Laws.{Octets, Sibling, Versioned, Entries, Summed, Held, Asked, says, ReadsBack, OneContent}
+use Rattle.opening.specs.Laws.{Sibling, Versioned, Entries, Summed, Held, Asked, says, ReadsBack, OneContent}
 use Rattle.icp.proofs.Changes.{length_joined}
 use Rattle.opening.proofs.Fields.{read2, read4}
 

@@ -1,23 +1,21 @@
 -- What is opened was written so.
-use Rattle.std.proofs.Common.{◌≡◌, ℕ, zero, suc, ◌+◌, ◌-◌, ◌*◌, ◌/◌, ◌%◌, ◌^◌, ◌<◌, ◌≤◌, Bool, true, false, cond, not, ◌&&◌, ◌||◌, eqb, ltb, leb, ◌⊎◌, List, [], ◌∷◌, ◌++◌, length, get_or, take, drop, Some, None, Option, sym, refl, ap, ◌∙◌, subst, inl, inr, arith, length-drop}
+use Rattle.std.proofs.Common.{◌≡◌, ℕ, suc, ◌+◌, ◌-◌, ◌*◌, ◌/◌, ◌%◌, ◌<◌, ◌≤◌, Bool, true, false, cond, not, ◌&&◌, ◌||◌, eqb, ltb, leb, List, [], ◌∷◌, ◌++◌, length, get_or, take, drop, None, Option, sym, refl, ap, ◌∙◌, subst, inl, inr, arith, length-drop}
 use Rattle.std.specs.List.{flat_map}
 use Rattle.std.specs.Str.{bytes_eq}
 use Rattle.std.proofs.lemmas.Slice.Eq.{bytes_eq-Decides}
 use Rattle.std.proofs.lemmas.List.{get_or-drop, get_or-take, get_or_past, take_more, take_all, drop_all, length-take}
-use Rattle.std.proofs.lemmas.Bool.{or_parts, or_cases, not-false, not-true, ltb-false, ltb-true, leb-true, leb-false, le-leb, eqb-true, eqb-false, cases_lt, and_from}
+use Rattle.std.proofs.lemmas.Bool.{or_parts, or_cases, not-false, ltb-false, ltb-true, eqb-true, eqb-false, cases_lt, and_from}
 use Rattle.std.proofs.lemmas.Bool.Decides.{nat_tests}
-use Rattle.icp.specs.declared.contents.Change.{Change}
 use Rattle.opening.specs.declared.opener.Opener.{Opener}
 use Rattle.opening.specs.declared.opener.Call.{Call}
 use Rattle.opening.specs.declared.opener.Call.TheVariants.{Update, Answer, Query, Reply}
 use Rattle.icp.specs.declared.refusals.MessageFault.{MessageFault}
-use Rattle.icp.specs.declared.refusals.MessageFault.TheVariants as fault
 use Rattle.icp.specs.Numbers.{octets4, number4}
 use Rattle.icp.specs.Contents.{Content, changes, whole, acknowledgement, call, query, hit, miss, header, filter_fields, entry_octets, text, opcode_of, request_of, data_of, sender_of, body_of, written}
-use Rattle.opening.specs.Reading.{least, stranger, wrong_length, wrong_header, wrong_sender, wrong_filter, wrong_body, wrong_version, wrong_entries, functions_in, bits_in, positions_in, count_in, body_refusal, wrong_text, other_query, opens, header_refusal, version_in, length_in, request_in, options_in, data_in, sender_in, opcode_in, change, entries_in, rises, all_but_last}
+use Rattle.opening.specs.Reading.{least, stranger, wrong_length, wrong_header, wrong_sender, wrong_filter, wrong_body, wrong_version, wrong_entries, functions_in, bits_in, positions_in, count_in, body_refusal, wrong_text, other_query, opens, header_refusal, version_in, length_in, request_in, options_in, data_in, sender_in, opcode_in, entries_in, rises, all_but_last}
 use Rattle.icp.specs.Names.{nameable}
 use Rattle.icp.specs.Faults.{refuse}
-use Rattle.opening.specs.Laws.{Octets, Sibling, Versioned, Entries, Summed, Held, Asked, Proper, Opening, update, answer, question, reply, opening_of, says, WritesBack}
+use Rattle.opening.specs.Laws.{Octets, Sibling, Versioned, Held, Asked, Proper, Opening, update, answer, question, reply, opening_of, says, WritesBack}
 use Rattle.opening.proofs.Entries.{length_entries}
 use Rattle.opening.proofs.Fields.{fits4, write4, split, back2, back4, header_back}
 

@@ -1,5 +1,5 @@
 -- What octets are read as, and in which order they are refused.
-use Rattle.std.specs.Prelude.{◌≡◌, ℕ, ◌+◌, ◌-◌, ◌*◌, ◌/◌, ◌%◌, ◌≤◌, Bool, true, false, cond, not, ◌&&◌, ◌||◌, List, [], ◌∷◌, length, take, drop, Some, None, Option, ◌==◌, nat_le, nat_lt, slice_index}
+use Rattle.std.specs.Prelude.{◌≡◌, ℕ, ◌+◌, ◌-◌, ◌*◌, ◌/◌, ◌%◌, ◌≤◌, Bool, true, cond, not, ◌&&◌, ◌||◌, List, [], ◌∷◌, length, take, drop, None, Option, ◌==◌, nat_le, nat_lt, slice_index}
 use Rattle.icp.specs.declared.contents.Change.{Change}
 use Rattle.opening.specs.declared.headers.Header.{Header}
 use Rattle.opening.specs.declared.opener.Identity.{Identity}

@@ -1,5 +1,4 @@
-use Rattle.std.proofs.Common.{◌≡◌, ◌-◌, ◌≤◌, not, ◌||◌, length, take, sym, ap, ◌∙◌, arith}
-use Rattle.opening.specs.Reading.{wrong_text}
+use Rattle.std.proofs.Common.{◌≡◌, ◌-◌, not, length, take, sym, ap, ◌∙◌, arith}
 use Rattle.icp.specs.Names.{nameable}
 use Rattle.icp.proofs.Names.{nameable_is}
 use Rattle.opening.proofs.Names.{text_ends}

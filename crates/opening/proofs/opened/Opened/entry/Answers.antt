@@ -1,4 +1,4 @@
-use Rattle.std.proofs.Common.{◌≡◌, sym, ◌∙◌, arith}
+use Rattle.std.proofs.Common.{sym, ◌∙◌, arith}
 use Rattle.opening.proofs.Entries.{length_entries, entry_at}
 use Rattle.opening.proofs.opened.Opened.entry.Goals as goal
 
