@@ -45,13 +45,14 @@ fn whole_of_abc(rt: HostRuntime) -> Result<(), Fail> {
     let summary = summary_of_abc(&rt, rt.alloc(), house.size)?;
     let mut out = [7; 40];
     assert_eq!(rt; write_declaration(1, 0, &empty, &summary, &mut out), Ok(40));
-    assert_eq!(rt; &out[..], &WHOLE[..]);
+    let written = &WHOLE[..];
+    assert_eq!(rt; &out[..], written);
     let Ok(update) = house.open_update(&out) else {
         return Err(Fail::new("the whole is opened"));
     };
     assert!(rt; matches!(update.kind(), UpdateKind::Whole));
     assert_eq!(rt; (update.sender(), update.version()), (1, 1));
-    assert_eq!(rt; update.rest(), &WHOLE[32..40]);
+    assert_eq!(rt; update.rest(), &written[32..40]);
     Ok(())
 }
 
