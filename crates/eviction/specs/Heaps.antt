@@ -28,7 +28,7 @@ module _ {K : Type 0} (before : K → K → Bool) where
   abbrev pub Least : Entry K → List (Entry K) → Type 0
   Least x xs = (i : ℕ) (d : Entry K) → i < length xs → before (slice_index_or xs i d).rank x.rank ≡ false
 
--- what a lawful order says: x is below y
+-- what an order says: x is below y
 abbrev pub below : {K : Type 0} → (K → K → Ordering) → K → K → Bool
 below R x y = is_lt (R x y)
 
