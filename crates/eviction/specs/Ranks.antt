@@ -37,7 +37,7 @@ worth_order = (
   λ x y. less_in_turn (nat_lt x.h y.h) (x.h == y.h) (nat_lt x.stamp y.stamp) (x.stamp == y.stamp),
 )
 
--- two that do not tie: the second is below the first, or the first below the second
+-- r and s are what an order says of two values, each way round
 one_way : (r s : Ordering) → r ≡ ordering_reverse s → is_lt s ≡ false → s ≢ Equal → is_lt r ≡ true
 one_way r Less e h k = absurd (true≢false h)
 one_way r Equal e h k = absurd (k refl)
