@@ -5,8 +5,8 @@ use Rattle.std.specs.Ordering.{is_lt}
 use Rattle.eviction.specs.declared.heap.Entry.{Entry}
 use Rattle.eviction.specs.Heaps.{below, Heaped, Least, Keeps, Leads}
 
-module _ {K : Type 0} (R : K → K → Ordering) (before : K → K → Bool) (law : (o : IsTotalOrder R) × ((x y : K) → is_lt (R x y) ≡ before x y)) where
-  into : (xs : List (Entry K)) → Heaped before xs → Heaped (below law.0) xs
+module _ {K : Type 0} (R : K → K → Ordering) (before : K → K → Bool) (law : IsTotalOrder R × ((x y : K) → is_lt (R x y) ≡ before x y)) where
+  into : (xs : List (Entry K)) → Heaped before xs → Heaped (below R) xs
   into xs h = λ p k d lo a b f. law.1 (get_or xs k d).rank (get_or xs p d).rank ∙ h p k d lo a b f
 
   pub kept : (xs ys : List (Entry K)) → Keeps R xs ys → Heaped before xs → Heaped before ys

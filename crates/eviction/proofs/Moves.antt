@@ -10,7 +10,7 @@ use Rattle.std.proofs.lemmas.List.Sorted.{IsPermutation-refl, IsPermutation-tran
 use Rattle.std.proofs.lemmas.List.Edits.{swap_is}
 use Rattle.std.proofs.lemmas.List.{get_or_default, get_or_append_left}
 use Rattle.eviction.specs.declared.heap.Entry.{Entry}
-use Rattle.eviction.specs.Heaps.{Keeps, Leads}
+use Rattle.eviction.specs.Heaps.{after, below, Keeps, Leads}
 use Rattle.eviction.specs.Sifts.{Rises, Mends}
 use Rattle.eviction.proofs.Sifting as sifts
 
@@ -109,7 +109,7 @@ module _ {X : Type 0} where
 pub found : {K : Type 0} (xs : List (Entry K)) (at place : ℕ) (x : Entry K) → x ≡ get_or xs at x → ((d : Entry K) → (get_or xs at d).place ≡ place) → x.place ≡ place
 found xs at place x is h = ap (λ e. e.place) is ∙ h x
 
-module _ {K : Type 0} (R : K → K → Ordering → Type 0) where
+module _ {K : Type 0} (R : K → K → Ordering) where
   -- one more at the end, and up from there
   pub put_keeps : (xs ys : List (Entry K)) (x : Entry K) → Rises R (xs ++ x ∷ []) (length xs) ys → Keeps R xs ys
   unfolding Rises
@@ -117,7 +117,7 @@ module _ {K : Type 0} (R : K → K → Ordering → Type 0) where
       let w = xs ++ x ∷ [] in
       let n = length xs in
       let long : length w ≡ n + 1 = length-append xs (x ∷ []) in
-      let low : IsHeapWithin (sifts.test o) w 0 n = agrees (sifts.test o) xs w n n (omega arith) (λ i d a. get_or_append_left xs (x ∷ []) d i a) h in
+      let low : IsHeapWithin (after (below R)) w 0 n = agrees (after (below R)) xs w n n (omega arith) (λ i d a. get_or_append_left xs (x ∷ []) d i a) h in
       rises o (
         (λ p c d a b f u v. low p c d (omega arith) a b (omega arith), λ p c d a b a' b' f. absurd (omega arith)),
         λ c d a b f. absurd (omega arith),
@@ -129,15 +129,15 @@ module _ {K : Type 0} (R : K → K → Ordering → Type 0) where
   mend_keeps xs ys at k v le mends = λ o h.
       let w = take k (set xs at v) in
       let long : length w ≡ k = length-take-le k (set xs at v) (omega (arith, length-set xs at v)) in
-      mends o (gap (sifts.test o) (sifts.ranks o) xs w at (length w) (length xs) (omega arith) (λ i d a b. other xs at k v i d (omega arith) b) h)
+      mends o (gap (after (below R)) (sifts.ranks o) xs w at (length w) (length xs) (omega arith) (λ i d a b. other xs at k v i d (omega arith) b) h)
 
   -- the last one leaves
   pub end_keeps : (xs : List (Entry K)) (at k : ℕ) (v : Entry K) → k ≤ length xs → k ≤ at → Keeps R xs (take k (set xs at v))
   end_keeps xs at k v le end = λ o h.
       let w = take k (set xs at v) in
       let long : length w ≡ k = length-take-le k (set xs at v) (omega (arith, length-set xs at v)) in
-      agrees (sifts.test o) xs w (length w) (length xs) (omega arith) (λ i d a. other xs at k v i d (omega arith) (omega arith)) h
+      agrees (after (below R)) xs w (length w) (length xs) (omega arith) (λ i d a. other xs at k v i d (omega arith) (omega arith)) h
 
   -- the first is least
   pub leads : (xs : List (Entry K)) (x : Entry K) → ((d : Entry K) → x ≡ get_or xs 0 d) → Leads R x xs
-  leads xs x first = λ o h i d lt. sifts.by (sifts.test o) x (get_or xs i d) (get_or xs 0 d) (get_or xs i d) (first d) refl (sifts.top (sifts.test o) (sifts.ranks o) xs (length xs) d h i i (omega arith) lt)
+  leads xs x first = λ o h i d lt. sifts.by (after (below R)) x (get_or xs i d) (get_or xs 0 d) (get_or xs i d) (first d) refl (sifts.top (after (below R)) (sifts.ranks o) xs (length xs) d h i i (omega arith) lt)

@@ -28,18 +28,18 @@ module _ {K : Type 0} (before : K → K → Bool) where
   abbrev pub Least : Entry K → List (Entry K) → Type 0
   Least x xs = (i : ℕ) (d : Entry K) → i < length xs → before (slice_index_or xs i d).rank x.rank ≡ false
 
--- what a lawful order says: x is below y
-abbrev pub below : {K : Type 0} {R : K → K → Ordering → Type 0} → IsTotalOrder R → K → K → Bool
-below o x y = is_lt (o.cmp x y)
+-- what an order says: x is below y
+abbrev pub below : {K : Type 0} → (K → K → Ordering) → K → K → Bool
+below R x y = is_lt (R x y)
 
-module _ {K : Type 0} (R : K → K → Ordering → Type 0) where
+module _ {K : Type 0} (R : K → K → Ordering) where
   -- where xs is a heap, ys is one
   abbrev pub Keeps : List (Entry K) → List (Entry K) → Type 0
-  Keeps xs ys = (o : IsTotalOrder R) → Heaped (below o) xs → Heaped (below o) ys
+  Keeps xs ys = IsTotalOrder R → Heaped (below R) xs → Heaped (below R) ys
 
   -- where xs is a heap, x is least of it
   abbrev pub Leads : Entry K → List (Entry K) → Type 0
-  Leads x xs = (o : IsTotalOrder R) → Heaped (below o) xs → Least (below o) x xs
+  Leads x xs = IsTotalOrder R → Heaped (below R) xs → Least (below R) x xs
 
 -- no entry of xs has this place
 abbrev pub Lacks : {K : Type 0} → List (Entry K) → ℕ → Type 0

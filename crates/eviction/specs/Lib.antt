@@ -1,5 +1,4 @@
 pub mod Policies
+pub mod Ranks
 pub mod Heaps
 pub mod Sifts
-pub mod GreedyDualSizePolicyLemmas
-pub mod LruPolicyLemmas

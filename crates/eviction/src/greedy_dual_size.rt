@@ -1,12 +1,7 @@
 // GreedyDual-Size: the record of least worth leaves first, and what is admitted or used later starts from the worth of what left.
 ghost use Rattle.eviction.specs.Policies.{worth, inflated, cheaper};
-ghost use Rattle.std.specs.Prelude.{ℕ};
-ghost use Rattle.std.specs.Cmp.Derive.{on, fields};
-ghost use Rattle.std.specs.Cmp.{nat_cmp_total, ranks};
-ghost use Rattle.std.specs.Ordering as Orderings;
-ghost use Rattle.eviction.specs.declared.greedy_dual_size.Worth.{Worth};
-ghost use Rattle.eviction.specs.GreedyDualSizePolicyLemmas.{level};
-ghost use Rattle.std.proofs.Common.{rules};
+ghost use Rattle.std.specs.Prelude.{refl};
+ghost use Rattle.eviction.specs.Ranks.{worth_order, worth_apart};
 
 use crate::policy::Policy;
 
@@ -42,11 +37,11 @@ impl Policy for GreedyDualSize {
 
     ghost start = { record { l = 0 } };
 
-    ghost order = { (on {J = ℕ × ℕ} (λ (w : Worth). (w.h, w.stamp)) (fields nat_cmp_total nat_cmp_total), λ x y. level x.h y.h x.stamp y.stamp (Orderings.nat_cmp x.h y.h) (Orderings.nat_cmp x.stamp y.stamp) (ranks x.h y.h) (ranks x.stamp y.stamp)) };
+    ghost order = { worth_order };
 
-    ghost dated = { Prim.search rules };
+    ghost dated = { λ p stamp size cost. refl };
 
-    ghost apart = { Prim.search rules };
+    ghost apart = { worth_apart };
 
     fn new() -> GreedyDualSize {
         GreedyDualSize { l: 0 }

@@ -1,11 +1,7 @@
 // LRU: the record that was admitted or used least recently leaves first.
 ghost use Rattle.eviction.specs.Policies.{latest, earlier};
-ghost use Rattle.std.specs.Cmp.Derive.{on};
-ghost use Rattle.std.specs.Cmp.{nat_cmp_total, ranks};
-ghost use Rattle.std.specs.Ordering as Orderings;
-ghost use Rattle.eviction.specs.declared.lru.Stamp.{Stamp};
-ghost use Rattle.eviction.specs.LruPolicyLemmas.{level};
-ghost use Rattle.std.proofs.Common.{rules};
+ghost use Rattle.std.specs.Prelude.{refl};
+ghost use Rattle.eviction.specs.Ranks.{stamp_order, stamp_apart};
 
 use crate::policy::Policy;
 
@@ -29,11 +25,11 @@ impl Policy for Lru {
 
     ghost start = { record {} };
 
-    ghost order = { (on (λ (x : Stamp). x.0) nat_cmp_total, λ x y. level x.0 y.0 (Orderings.nat_cmp x.0 y.0) (ranks x.0 y.0)) };
+    ghost order = { stamp_order };
 
-    ghost dated = { Prim.search rules };
+    ghost dated = { λ p stamp size cost. refl };
 
-    ghost apart = { Prim.search rules };
+    ghost apart = { stamp_apart };
 
     fn new() -> Lru {
         Lru

@@ -32,7 +32,7 @@ pub trait Policy {
         ensures { self.new ≡ told self.old evicted };
 
     // The order of the ranks is lawful and total, and is that of `before`.
-    ghost order: { (o : IsTotalOrder Self.Rank.Ord.cmp) × ((x y : Self.Rank) → is_lt (Self.Rank.Ord.cmp x y) ≡ before x y) };
+    ghost order: { IsTotalOrder Self.Rank.Ord.cmp × ((x y : Self.Rank) → is_lt (Self.Rank.Ord.cmp x y) ≡ before x y) };
 
     // A rank has the stamp that it was made with.
     ghost dated: { (p : Self) (stamp size cost : ℕ) → stamped (ranked p stamp size cost) ≡ stamp };

@@ -28,7 +28,7 @@ impl EvictionHeap {
         entries: &mut [Entry<R>],
         entry: Entry<R>,
     ) -> Result<(), Full>
-        ensures order { Keeps (λ x' y' r'. r' ≡ R.Ord.cmp x' y') (live self.old entries.old) (live self.new entries.new) }
+        ensures order { Keeps R.Ord.cmp (live self.old entries.old) (live self.new entries.new) }
         ensures cases { MatchResult result (λ _. (length (live self.old entries.old) < length entries.old) × IsPermutation (entry ∷ live self.old entries.old) (live self.new entries.new)) (λ _. (length (live self.old entries.old) ≡ length entries.old) × (self.new ≡ self.old) × (entries.new ≡ entries.old)) }
     {
         let at = self.len;
@@ -43,7 +43,7 @@ impl EvictionHeap {
 
     // An entry of least rank.
     pub fn peek<R: Ord + Copy>(&self, entries: &[Entry<R>]) -> Option<Entry<R>>
-        ensures { MatchOption result (live self.now entries.now ≡ []) (λ x. (live self.now entries.now ≡ x ∷ drop 1 (live self.now entries.now)) × Leads (λ x' y' r'. r' ≡ R.Ord.cmp x' y') x (live self.now entries.now)) }
+        ensures { MatchOption result (live self.now entries.now ≡ []) (λ x. (live self.now entries.now ≡ x ∷ drop 1 (live self.now entries.now)) × Leads R.Ord.cmp x (live self.now entries.now)) }
     {
         if self.len(entries) == 0 {
             return None;
@@ -53,8 +53,8 @@ impl EvictionHeap {
 
     // Takes out the entry that `peek` answers.
     pub fn take_least<R: Ord + Copy>(&mut self, entries: &mut [Entry<R>]) -> Option<Entry<R>>
-        ensures order { Keeps (λ x' y' r'. r' ≡ R.Ord.cmp x' y') (live self.old entries.old) (live self.new entries.new) }
-        ensures cases { MatchOption result ((live self.old entries.old ≡ []) × (self.new ≡ self.old) × (entries.new ≡ entries.old)) (λ x. (live self.old entries.old ≡ x ∷ drop 1 (live self.old entries.old)) × Leads (λ x' y' r'. r' ≡ R.Ord.cmp x' y') x (live self.old entries.old) × IsPermutation (live self.old entries.old) (x ∷ live self.new entries.new)) }
+        ensures order { Keeps R.Ord.cmp (live self.old entries.old) (live self.new entries.new) }
+        ensures cases { MatchOption result ((live self.old entries.old ≡ []) × (self.new ≡ self.old) × (entries.new ≡ entries.old)) (λ x. (live self.old entries.old ≡ x ∷ drop 1 (live self.old entries.old)) × Leads R.Ord.cmp x (live self.old entries.old) × IsPermutation (live self.old entries.old) (x ∷ live self.new entries.new)) }
     {
         let len = self.len(entries);
         if len == 0 {
@@ -70,7 +70,7 @@ impl EvictionHeap {
         entries: &mut [Entry<R>],
         place: usize,
     ) -> Option<Entry<R>>
-        ensures order { Keeps (λ x' y' r'. r' ≡ R.Ord.cmp x' y') (live self.old entries.old) (live self.new entries.new) }
+        ensures order { Keeps R.Ord.cmp (live self.old entries.old) (live self.new entries.new) }
         ensures cases { MatchOption result (Lacks (live self.old entries.old) place × (self.new ≡ self.old) × (entries.new ≡ entries.old)) (λ x. (x.place ≡ place) × IsPermutation (live self.old entries.old) (x ∷ live self.new entries.new)) }
     {
         let len = self.len(entries);
@@ -88,7 +88,7 @@ impl EvictionHeap {
         rank: R,
     ) -> Option<Entry<R>>
         ensures heap { self.new ≡ self.old }
-        ensures order { Keeps (λ x' y' r'. r' ≡ R.Ord.cmp x' y') (live self.old entries.old) (live self.new entries.new) }
+        ensures order { Keeps R.Ord.cmp (live self.old entries.old) (live self.new entries.new) }
         ensures cases { MatchOption result (Lacks (live self.old entries.old) place × (entries.new ≡ entries.old)) (λ x. (x.place ≡ place) × ((rest : List (Entry R)) × IsPermutation (live self.old entries.old) (x ∷ rest) × IsPermutation (live self.new entries.new) (record { rank = rank; place = place } ∷ rest))) }
     {
         let len = self.len(entries);

@@ -1,5 +1,5 @@
 // The steps that keep a slice of entries a heap.
-ghost use Rattle.std.specs.Prelude.{◌≡◌, ◌+◌, ◌-◌, ◌*◌, ◌<◌, ◌≤◌, ◌∷◌, length, get_or, take, MatchOption, slice_index_or};
+ghost use Rattle.std.specs.Prelude.{◌≡◌, ◌+◌, ◌-◌, ◌*◌, ◌<◌, ◌≤◌, ◌∷◌, length, take, MatchOption, slice_index_or};
 ghost use Rattle.std.specs.List.Sorted.{IsPermutation};
 ghost use Rattle.eviction.specs.Heaps.{Keeps, Lacks};
 ghost use Rattle.eviction.specs.Sifts.{Tells, Best, Rises, Sinks, Mends};
@@ -9,7 +9,7 @@ use crate::heap::Entry;
 // Whether the rank at `a` is below that at `b`.
 fn is_less<R: Ord + Copy>(live: &[Entry<R>], a: usize, b: usize) -> bool
     requires { (a < length live.now) × (b < length live.now) }
-    ensures { Tells (λ x' y' r'. r' ≡ R.Ord.cmp x' y') live.now a b result }
+    ensures { Tells R.Ord.cmp live.now a b result }
 {
     live[a].rank.cmp(&live[b].rank).is_lt()
 }
@@ -18,7 +18,7 @@ fn is_less<R: Ord + Copy>(live: &[Entry<R>], a: usize, b: usize) -> bool
 fn least_child<R: Ord + Copy>(live: &[Entry<R>], at: usize) -> usize
     requires { 2 * at + 1 < length live.now }
     ensures bound { (result < length live.now) × (at * 2 + 1 ≤ result) × (result ≤ at * 2 + 2) }
-    ensures best { Best (λ x' y' r'. r' ≡ R.Ord.cmp x' y') live.now at result }
+    ensures best { Best R.Ord.cmp live.now at result }
 {
     let left = 2 * at + 1;
     let right = left + 1;
@@ -32,7 +32,7 @@ fn least_child<R: Ord + Copy>(live: &[Entry<R>], at: usize) -> usize
 pub(crate) fn sift_up<R: Ord + Copy>(live: &mut [Entry<R>], mut at: usize)
     requires { at < length live.old }
     ensures shuffled { IsPermutation live.old live.new }
-    ensures rises { Rises (λ x' y' r'. r' ≡ R.Ord.cmp x' y') live.old at live.new }
+    ensures rises { Rises R.Ord.cmp live.old at live.new }
 {
     while at > 0 {
         let parent = (at - 1) / 2;
@@ -48,7 +48,7 @@ pub(crate) fn sift_up<R: Ord + Copy>(live: &mut [Entry<R>], mut at: usize)
 fn sift_down<R: Ord + Copy>(live: &mut [Entry<R>], mut at: usize)
     requires { at < length live.old }
     ensures shuffled { IsPermutation live.old live.new }
-    ensures sinks { Sinks (λ x' y' r'. r' ≡ R.Ord.cmp x' y') live.old at live.new }
+    ensures sinks { Sinks R.Ord.cmp live.old at live.new }
 {
     let len = live.len();
     while at < len / 2 {
@@ -65,7 +65,7 @@ fn sift_down<R: Ord + Copy>(live: &mut [Entry<R>], mut at: usize)
 pub(crate) fn mend<R: Ord + Copy>(live: &mut [Entry<R>], at: usize)
     requires { at < length live.old }
     ensures shuffled { IsPermutation live.old live.new }
-    ensures mends { Mends (λ x' y' r'. r' ≡ R.Ord.cmp x' y') live.old at live.new }
+    ensures mends { Mends R.Ord.cmp live.old at live.new }
 {
     if at > 0 && is_less(live, at, (at - 1) / 2) {
         sift_up(live, at);
@@ -76,7 +76,7 @@ pub(crate) fn mend<R: Ord + Copy>(live: &mut [Entry<R>], at: usize)
 
 // Where an entry with this place stands.
 pub(crate) fn position<R: Copy>(live: &[Entry<R>], place: usize) -> Option<usize>
-    ensures { MatchOption result (Lacks live.now place) (λ i. (i < length live.now) × ((d : Entry R) → (get_or live.now i d).place ≡ place)) }
+    ensures { MatchOption result (Lacks live.now place) (λ i. (i < length live.now) × ((d : Entry R) → (slice_index_or live.now i d).place ≡ place)) }
 {
     for (i, e) in live.iter().enumerate() {
         if e.place == place {
@@ -91,7 +91,7 @@ pub(crate) fn take_out<R: Ord + Copy>(live: &mut [Entry<R>], at: usize) -> Entry
     requires { at < length live.old }
     ensures value { (d : Entry R) → result ≡ slice_index_or live.old at d }
     ensures shuffled { IsPermutation live.old (result ∷ take (length live.old - 1) live.new) }
-    ensures keeps { Keeps (λ x' y' r'. r' ≡ R.Ord.cmp x' y') live.old (take (length live.old - 1) live.new) }
+    ensures keeps { Keeps R.Ord.cmp live.old (take (length live.old - 1) live.new) }
 {
     let last = live.len() - 1;
     let out = live[at];

@@ -19,17 +19,17 @@ returns g c =
     let xs = take n es in
     let put = xs ++ x ∷ [] in
     let w = set es n x in
-    let ys = c.sift-up.new.live in
-    let told = c.sift-up.ensures in
+    let ys = c.sift_up.new.live in
+    let told = c.sift_up.ensures in
     let lt : n < length es = omega arith in
     let was : length xs ≡ n = length-take-le n es (omega arith) in
     let zero : n + 1 - 0 ≡ n + 1 = omega arith in
     let lent : take (n + 1 - 0) w ≡ put = ap (λ k. take k w) zero ∙ take_more_set es n x lt in
     let shuffled : IsPermutation put ys = subst (λ l. IsPermutation l ys) lent told.shuffled in
-    let rises : Rises (λ x' y' r'. r' ≡ g.R.Ord.cmp x' y') put (length xs) ys = subst (λ k. Rises (λ x' y' r'. r' ≡ g.R.Ord.cmp x' y') put k ys) (sym was) (subst (λ l. Rises (λ x' y' r'. r' ≡ g.R.Ord.cmp x' y') l n ys) lent told.rises) in
+    let rises : Rises g.R.Ord.cmp put (length xs) ys = subst (λ k. Rises g.R.Ord.cmp put k ys) (sym was) (subst (λ l. Rises g.R.Ord.cmp l n ys) lent told.rises) in
     let long : length ys ≡ n + 1 = omega (arith, length_permutation put ys shuffled, length-append xs (x ∷ [])) in
     let is : take (n + 1) (ys ++ post_of 0 (n + 1 - 0) w) ≡ ys = moves.back w ys (n + 1) (n + 1) long (omega arith) ∙ take_all (n + 1) ys (omega arith) in
     record {
-      order = subst (Keeps (λ x' y' r'. r' ≡ g.R.Ord.cmp x' y') xs) (sym is) (moves.put_keeps (λ x' y' r'. r' ≡ g.R.Ord.cmp x' y') xs ys x rises);
+      order = subst (Keeps g.R.Ord.cmp xs) (sym is) (moves.put_keeps g.R.Ord.cmp xs ys x rises);
       cases = (omega arith, subst (IsPermutation (x ∷ xs)) (sym is) (IsPermutation-trans (x ∷ xs) put ys (moves.put_shuffles xs x) shuffled));
     }

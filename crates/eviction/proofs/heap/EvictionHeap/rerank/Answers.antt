@@ -7,18 +7,18 @@ use Rattle.eviction.specs.Sifts.{Mends}
 use Rattle.eviction.proofs.Moves as moves
 use Rattle.eviction.proofs.heap.EvictionHeap.rerank.Goals as goal
 
-pub returns-in-err-at : goal.returns-in-err-at
-returns-in-err-at g c =
+pub returns-in_err-at : goal.returns-in_err-at
+returns-in_err-at g c =
     let es = c.args.entries.now in
     let m = c.args.self.now.len in
     let n = c.len-len.result in
     let part = moves.part es m n c.len-len.ensures.live in
     let same = moves.unchanged es n in
-    let lacks : Lacks (take m es) c.args.place = subst (λ l. Lacks l c.args.place) part c.in-err-at.ensures in
+    let lacks : Lacks (take m es) c.args.place = subst (λ l. Lacks l c.args.place) part c.in_err-at.ensures in
     record {
       heap = refl {a = c.args.self.now};
-      order = subst (λ l. Keeps (λ x' y' r'. r' ≡ g.R.Ord.cmp x' y') (take m es) (take m l)) (sym same) (λ o h. h);
-      cases = rw c.from-residual.ensures (lacks, same);
+      order = subst (λ l. Keeps g.R.Ord.cmp (take m es) (take m l)) (sym same) (λ o h. h);
+      cases = rw c.from_residual.ensures (lacks, same);
     }
 
 pub returns : goal.returns
@@ -26,8 +26,8 @@ returns g c =
     let es = c.args.entries.now in
     let m = c.args.self.now.len in
     let n = c.len-len.result in
-    let at = c.in-ok-at.at in
-    let found = c.in-ok-at.ensures in
+    let at = c.in_ok-at.at in
+    let found = c.in_ok-at.ensures in
     let new : Entry g.row.R.Denot = record { rank = c.args.rank; place = c.args.place } in
     let xs = take m es in
     let x = c.index-live-at.result in
@@ -39,14 +39,14 @@ returns g c =
     let w = set xs at new in
     let same : length w ≡ length xs = length-set xs at new in
     let shuffled : IsPermutation w ys = subst (λ l. IsPermutation (set l at new) ys) part told.shuffled in
-    let mends : Mends (λ x' y' r'. r' ≡ g.R.Ord.cmp x' y') w at ys = subst (λ l. Mends (λ x' y' r'. r' ≡ g.R.Ord.cmp x' y') (set l at new) at ys) part told.mends in
-    let mends' : Mends (λ x' y' r'. r' ≡ g.R.Ord.cmp x' y') (take (length xs) w) at ys = subst (λ l. Mends (λ x' y' r'. r' ≡ g.R.Ord.cmp x' y') l at ys) (sym (take_all (length xs) w (omega arith))) mends in
+    let mends : Mends g.R.Ord.cmp w at ys = subst (λ l. Mends g.R.Ord.cmp (set l at new) at ys) part told.mends in
+    let mends' : Mends g.R.Ord.cmp (take (length xs) w) at ys = subst (λ l. Mends g.R.Ord.cmp l at ys) (sym (take_all (length xs) w (omega arith))) mends in
     let long : length ys ≡ n = omega (arith, length_permutation w ys shuffled, c.len-len.ensures.live) in
     let is = moves.filled es ys m n c.len-len.ensures.live long in
     let out : IsPermutation xs (x ∷ moves.others xs at) = subst (λ e. IsPermutation xs (e ∷ moves.others xs at)) (sym x-is) (moves.picked xs at x in') in
     let into : IsPermutation ys (new ∷ moves.others xs at) = IsPermutation-trans ys w (new ∷ moves.others xs at) (IsPermutation-sym w ys shuffled) (moves.placed xs at new in') in
     record {
       heap = refl {a = c.args.self.now};
-      order = subst (Keeps (λ x' y' r'. r' ≡ g.R.Ord.cmp x' y') xs) (sym is) (moves.mend_keeps (λ x' y' r'. r' ≡ g.R.Ord.cmp x' y') xs ys at (length xs) new (omega arith) mends');
+      order = subst (Keeps g.R.Ord.cmp xs) (sym is) (moves.mend_keeps g.R.Ord.cmp xs ys at (length xs) new (omega arith) mends');
       cases = (moves.found (take (n - 0) es) at c.args.place x c.index-live-at.is found.1, (moves.others xs at, out, subst (λ l. IsPermutation l (new ∷ moves.others xs at)) (sym is) into));
     }

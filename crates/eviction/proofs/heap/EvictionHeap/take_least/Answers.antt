@@ -14,16 +14,16 @@ returns g c =
     let es = c.args.entries.now in
     let n = c.len-len.result in
     let xs = take c.args.self.now.len es in
-    let x = c.take-out.result in
-    let ys = c.take-out.new.live in
-    let told = c.take-out.ensures in
+    let x = c.take_out.result in
+    let ys = c.take_out.new.live in
+    let told = c.take_out.ensures in
     let part = moves.part es c.args.self.now.len n c.len-len.ensures.live in
-    let shorter = moves.shorter es ys n c.len-len.ensures.within c.take-out.auto.live in
+    let shorter = moves.shorter es ys n c.len-len.ensures.within c.take_out.auto.live in
     let left = take (length (take (n - 0) es) - 1) ys in
-    let keeps : Keeps (λ x' y' r'. r' ≡ g.R.Ord.cmp x' y') xs left = subst (λ l. Keeps (λ x' y' r'. r' ≡ g.R.Ord.cmp x' y') l left) part told.keeps in
+    let keeps : Keeps g.R.Ord.cmp xs left = subst (λ l. Keeps g.R.Ord.cmp l left) part told.keeps in
     let shuffled : IsPermutation xs (x ∷ left) = subst (λ l. IsPermutation l (x ∷ left)) part told.shuffled in
     let first : (d : Entry g.row.R.Denot) → x ≡ get_or xs 0 d = λ d. told.value d ∙ ap (λ l. get_or l 0 d) part in
     record {
-      order = subst (Keeps (λ x' y' r'. r' ≡ g.R.Ord.cmp x' y') xs) (sym shorter) keeps;
-      cases = (moves.headed xs x (omega arith) first, moves.leads (λ x' y' r'. r' ≡ g.R.Ord.cmp x' y') xs x first, subst (λ l. IsPermutation xs (x ∷ l)) (sym shorter) shuffled);
+      order = subst (Keeps g.R.Ord.cmp xs) (sym shorter) keeps;
+      cases = (moves.headed xs x (omega arith) first, moves.leads g.R.Ord.cmp xs x first, subst (λ l. IsPermutation xs (x ∷ l)) (sym shorter) shuffled);
     }

@@ -21,13 +21,13 @@ returns-then-at-last g c =
     let same : length w ≡ length xs = length-set xs at v in
     let zero : k - 0 ≡ k = omega arith in
     let shuffled : IsPermutation (take k w) ys = subst (λ m. IsPermutation (take m w) ys) zero told.shuffled in
-    let mends : Mends (λ x' y' r'. r' ≡ g.R.Ord.cmp x' y') (take k w) at ys = subst (λ m. Mends (λ x' y' r'. r' ≡ g.R.Ord.cmp x' y') (take m w) at ys) zero told.mends in
+    let mends : Mends g.R.Ord.cmp (take k w) at ys = subst (λ m. Mends g.R.Ord.cmp (take m w) at ys) zero told.mends in
     let long : length ys ≡ k = omega (arith, length_permutation (take k w) ys shuffled, length-take-le k w (omega arith)) in
     let is : take k (ys ++ post_of 0 (k - 0) w) ≡ ys = moves.back w ys k k long (omega arith) ∙ take_all k ys (omega arith) in
     record {
       value = λ d. c.index-live-at.is ∙ get_or_default xs at r d c.requires;
       shuffled = subst (λ l. IsPermutation xs (r ∷ l)) (sym is) (IsPermutation-trans xs (r ∷ take k w) (r ∷ ys) (moves.out_shuffles xs at k r v c.requires refl c.index-live-at.is c.index-live-last.is) (IsPermutation-cons r (take k w) ys shuffled));
-      keeps = subst (Keeps (λ x' y' r'. r' ≡ g.R.Ord.cmp x' y') xs) (sym is) (moves.mend_keeps (λ x' y' r'. r' ≡ g.R.Ord.cmp x' y') xs ys at k v (omega arith) mends);
+      keeps = subst (Keeps g.R.Ord.cmp xs) (sym is) (moves.mend_keeps g.R.Ord.cmp xs ys at k v (omega arith) mends);
     }
 
 pub returns-else-at-last : goal.returns-else-at-last
@@ -40,5 +40,5 @@ returns-else-at-last g c =
     record {
       value = λ d. c.index-live-at.is ∙ get_or_default xs at r d c.requires;
       shuffled = moves.out_shuffles xs at k r v c.requires refl c.index-live-at.is c.index-live-last.is;
-      keeps = moves.end_keeps (λ x' y' r'. r' ≡ g.R.Ord.cmp x' y') xs at k v (omega arith) (omega arith);
+      keeps = moves.end_keeps g.R.Ord.cmp xs at k v (omega arith) (omega arith);
     }
