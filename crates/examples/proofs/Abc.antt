@@ -1,8 +1,8 @@
 -- The name abc, by computing.
-use Rattle.std.proofs.Common.{◌≡◌, ℕ, zero, suc, ◌+◌, ◌*◌, ◌<◌, Bool, true, false, ◌&&◌, ltb, List, [], ◌∷◌, length, get_or, replicate, codes, sym, refl, ap, ◌∙◌, subst, inl, inr, arith}
+use Rattle.std.proofs.Common.{◌≡◌, ℕ, zero, suc, ◌<◌, Bool, true, false, ◌&&◌, ltb, List, [], ◌∷◌, length, get_or, replicate, codes, sym, refl, ap, ◌∙◌, subst, inl, inr, arith}
 use Rattle.std.proofs.lemmas.Bool.{and_parts, cases_eq, ltb-true}
-use Rattle.digest.specs.Md5.{md5, md5_words, step, block}
-use Rattle.filter.specs.Positions.{positions, names}
+use Rattle.digest.specs.Md5.{md5, step, block}
+use Rattle.filter.specs.Positions.{names}
 use Rattle.filter.specs.Counters.{raised, Issued}
 use Rattle.filter.specs.Summaries.{bit, Summarizes}
 use Rattle.filter.proofs.Octets.{same_bits}
