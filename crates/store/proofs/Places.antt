@@ -86,11 +86,6 @@ unique_put rows i x h absent u j k a =
 pub unique_none : (rows : Contents) → ((k : ℕ) (c : Content) → get_or rows k None ≡ Some c → ⊥) → Unique rows
 unique_none rows none i j a = absurd (none i a.first a.at_i)
 
--- a name that was found is held
-pub found_held : (rows : Contents) (name : List ℕ) (r : Option ℕ) → true ≡ is_some r → MatchOption r (Absent rows name) (λ p. Named rows p name) → Absent rows name → ⊥
-found_held rows name None e h absent = false≢true (sym e)
-found_held rows name (Some p) e h absent = absent p h.row h.here h.is
-
 -- where a record may be added: what was found of its name, and a free place
 pub place_cases : (rows : Contents) (c : Content) (found : Option ℕ) (held : Bool) (r : Option ℕ) → held ≡ is_some found
     → MatchOption found (Absent rows c.name) (λ p. Named rows p c.name)
