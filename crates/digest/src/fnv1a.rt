@@ -1,6 +1,6 @@
 // FNV-1a of 64 bits, of a name and of the name followed by the octet 01.
-ghost use Rattle.std.specs.Prelude.{◌≡◌, ◌/◌, ◌%◌, ◌^◌, [], ◌∷◌, ◌++◌, refl};
-ghost use Rattle.digest.specs.Fnv.{hashed, fnv_words, offset_basis};
+ghost use Rattle.std.specs.Prelude.{◌≡◌, ◌/◌, ◌%◌, ◌^◌, refl};
+ghost use Rattle.digest.specs.Fnv.{hashed, fnv_words};
 ghost use Rattle.digest.specs.Narrow.{fnv_narrow};
 
 use crate::Digest;

@@ -21,7 +21,9 @@ pub trait Digest {
     fn words(&self, name: &[u8]) -> [u32; 4]
         ensures { result ≡ words name.now };
 
+    // There are four words.
     ghost four: { (name : List ℕ) → length (words name) ≡ 4 };
 
+    // Each has 32 bits.
     ghost narrow: { (name : List ℕ) → AllByRecursion (λ w. w < 2 ^ 32) (words name) };
 }

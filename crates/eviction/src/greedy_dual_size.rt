@@ -1,6 +1,6 @@
 // GreedyDual-Size: the record of least worth leaves first, and what is admitted or used later starts from the worth of what left.
-ghost use Rattle.eviction.specs.Policies.{worth, inflated, cheaper};
 ghost use Rattle.std.specs.Prelude.{refl};
+ghost use Rattle.eviction.specs.Policies.{worth, inflated, cheaper};
 ghost use Rattle.eviction.specs.Ranks.{worth_order, worth_apart};
 
 use crate::policy::Policy;

@@ -1,6 +1,6 @@
 // LRU: the record that was admitted or used least recently leaves first.
-ghost use Rattle.eviction.specs.Policies.{latest, earlier};
 ghost use Rattle.std.specs.Prelude.{refl};
+ghost use Rattle.eviction.specs.Policies.{latest, earlier};
 ghost use Rattle.eviction.specs.Ranks.{stamp_order, stamp_apart};
 
 use crate::policy::Policy;

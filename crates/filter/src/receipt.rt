@@ -1,5 +1,5 @@
 // Receipts: the positions of a name.
-ghost use Rattle.std.specs.Prelude.{◌≡◌, ℕ, ◌<◌, Bool, take, slice_index};
+ghost use Rattle.std.specs.Prelude.{◌≡◌, ◌<◌, take, slice_index};
 ghost use Rattle.filter.specs.Positions.{positions, names};
 
 use crate::size::FilterSize;

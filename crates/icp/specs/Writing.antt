@@ -29,12 +29,12 @@ changed a b (suc n) = changed a b n ++ cond (differs a b n) (record { position =
 
 -- the summaries are of one size, and so few positions differ that a list of them is the shorter message
 abbrev pub listable : ℕ → ℕ → List ℕ → List ℕ → Bool
-listable m m-before a b = m-before == m && nat_lt (4 * tally (differs a b) m) (m / 8)
+listable m m_before a b = m_before == m && nat_lt (4 * tally (differs a b) m) (m / 8)
 
 -- a version that follows an earlier one: what changed, or the whole
 abbrev pub declaration : ℕ → ℕ → ℕ → ℕ → List ℕ → List ℕ → Content
-declaration sender earlier m m-before a b =
-    cond (listable m m-before a b) (changes sender (earlier + 1) (changed a b m)) (whole sender (earlier + 1) b)
+declaration sender earlier m m_before a b =
+    cond (listable m m_before a b) (changes sender (earlier + 1) (changed a b m)) (whole sender (earlier + 1) b)
 
 -- the output is too short
 abbrev pub short_output : ℕ → ℕ → ℕ → Option MessageFault

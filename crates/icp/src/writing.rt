@@ -1,5 +1,5 @@
 // Answers, queries and replies written.
-ghost use Rattle.std.specs.Prelude.{◌≡◌, ℕ, ◌+◌, ◌≤◌, ◌++◌, length, Some as Just, None as Nothing, MatchResult};
+ghost use Rattle.std.specs.Prelude.{◌≡◌, ℕ, ◌+◌, ◌≤◌, length, Some as Just, None as Nothing, MatchResult};
 ghost use Rattle.icp.specs.Contents.{header, filter_fields, text, query as asks};
 ghost use Rattle.icp.specs.Types.{answer_opcode, answer_says, reply_opcode, reply_as};
 ghost use Rattle.icp.specs.Writing.{Written, put_at, short_output, text_refusal};

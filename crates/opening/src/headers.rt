@@ -1,5 +1,5 @@
 // The checks that every message goes through first.
-ghost use Rattle.std.specs.Prelude.{◌≡◌, ◌≤◌, Bool, length, Some as Just, Option, MatchResult};
+ghost use Rattle.std.specs.Prelude.{◌≡◌, ◌≤◌, length, Some as Just, Option, MatchResult};
 ghost use Rattle.opening.specs.Reading.{least, wrong_length, wrong_header, wrong_sender, header_refusal, Headed};
 
 use crate::numbers::{number2, number4};

@@ -1,5 +1,5 @@
 // Who opens a message, and what for.
-ghost use Rattle.std.specs.Prelude.{◌≡◌, Bool};
+ghost use Rattle.std.specs.Prelude.{◌≡◌};
 ghost use Rattle.opening.specs.Reading.{identity, least, opens, stranger};
 
 use filter::FilterSize;

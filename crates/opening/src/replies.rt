@@ -1,5 +1,5 @@
 // Answers, queries and replies opened.
-ghost use Rattle.std.specs.Prelude.{◌≡◌, ◌≤◌, Bool, false, length, Some as Just, None as Nothing, MatchResult};
+ghost use Rattle.std.specs.Prelude.{◌≡◌, ◌≤◌, false, length, Some as Just, None as Nothing, MatchResult};
 ghost use Rattle.icp.specs.Contents.{query as asks};
 ghost use Rattle.opening.specs.Reading.{wrong_text, other_query, answer_refusal, query_refusal, reply_refusal, answer_in, query_in, reply_in};
 ghost use Rattle.icp.specs.Types.{answer_says, reply_as};

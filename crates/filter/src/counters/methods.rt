@@ -1,5 +1,5 @@
 // Counters raised, lowered and read.
-ghost use Rattle.std.specs.Prelude.{◌≡◌, ℕ, ◌+◌, ◌*◌, ◌<◌, ◌≤◌, Bool, false, length, replicate, IfOk, if◌then◌else◌, vec_len, MatchOption, ◌==◌, nat_lt, slice_index};
+ghost use Rattle.std.specs.Prelude.{◌≡◌, ℕ, ◌+◌, ◌*◌, ◌<◌, ◌≤◌, false, length, replicate, IfOk, if◌then◌else◌, MatchOption, ◌==◌, nat_lt, slice_index};
 ghost use Rattle.filter.specs.Counters.{raised, lowered, Issued, Spent};
 ghost use Rattle.filter.specs.Summaries.{has_value};
 

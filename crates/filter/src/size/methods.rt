@@ -1,5 +1,5 @@
 // Sizes made and read.
-ghost use Rattle.std.specs.Prelude.{◌≡◌, ◌/◌, ◌%◌, ◌≤◌, MatchOption};
+ghost use Rattle.std.specs.Prelude.{◌≡◌, ◌/◌, ◌%◌, MatchOption};
 ghost use Rattle.filter.specs.Positions.{Sized};
 
 use super::FilterSize;

@@ -1,5 +1,5 @@
 // Summaries read and compared.
-ghost use Rattle.std.specs.Prelude.{◌≡◌, ℕ, ◌/◌, ◌<◌, ◌≤◌, length, replicate, IfOk, vec_len, MatchOption, MatchResult, ◌≢◌};
+ghost use Rattle.std.specs.Prelude.{◌≡◌, ◌/◌, ◌<◌, replicate, IfOk, MatchOption, MatchResult, ◌≢◌};
 ghost use Rattle.filter.specs.Summaries.{bit, present, differs, tally, Summarizes};
 
 use super::Summary;

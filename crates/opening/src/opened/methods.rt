@@ -1,5 +1,5 @@
 // Updates opened and read.
-ghost use Rattle.std.specs.Prelude.{◌≡◌, ◌+◌, ◌*◌, ◌/◌, ◌<◌, ◌≤◌, Bool, length, Some as Just, None as Nothing, MatchOption, MatchResult, slice_index_or};
+ghost use Rattle.std.specs.Prelude.{◌≡◌, ◌+◌, ◌*◌, ◌/◌, ◌<◌, ◌≤◌, length, Some as Just, None as Nothing, MatchOption, MatchResult, slice_index_or};
 ghost use Rattle.icp.specs.Numbers.{number4};
 ghost use Rattle.opening.specs.Reading.{identity, change, entries_in, rises, wrong_filter, wrong_body, wrong_numbers, wrong_entries, Headed, body_refusal, update_refusal, update_in};
 ghost use Rattle.opening.specs.Types.{update_as};
