@@ -1,7 +1,9 @@
 -- Positions that are named, one more at a time.
-use Rattle.std.proofs.Common.{◌≡◌, ℕ, ◌+◌, ◌<◌, Bool, true, false, ◌||◌, eqb, List, [], ◌∷◌, ◌++◌, length, get_or, take, sym, refl, ap, ◌∙◌, arith}
+use Rattle.std.proofs.Common.{◌≡◌, ℕ, ◌+◌, ◌<◌, Bool, true, false, ◌||◌, ◌&&◌, eqb, List, [], ◌∷◌, ◌++◌, length, get_or, take, sym, refl, ap, ◌∙◌, arith}
 use Rattle.std.proofs.lemmas.List.{take_more}
+use Rattle.std.specs.List.{list_all}
 use Rattle.filter.specs.Positions.{names, positions}
+use Rattle.filter.specs.Summaries.{bit, present}
 
 pub or_false : (b : Bool) → (b || false) ≡ b
 or_false true = refl
@@ -26,3 +28,8 @@ four_positions m (a ∷ b ∷ []) h = absurd (omega arith)
 four_positions m (a ∷ b ∷ c ∷ []) h = absurd (omega arith)
 four_positions m (a ∷ b ∷ c ∷ d ∷ []) h = refl
 four_positions m (a ∷ b ∷ c ∷ d ∷ e ∷ ws) h = absurd (omega arith)
+
+-- present, as the library's word for a test of every element
+pub present_all : (octets ps : List ℕ) → present octets ps ≡ list_all (bit octets) ps
+present_all octets [] = refl
+present_all octets (p ∷ ps) = ap (λ b. bit octets p && b) (present_all octets ps)

@@ -1,5 +1,5 @@
 -- Counters of 4 bits, one for each position: issuing a receipt raises those that it names, spending it lowers them.
-use Rattle.std.specs.Prelude.{◌≡◌, ℕ, ◌+◌, ◌-◌, ◌<◌, Bool, cond, List, length, ◌==◌, nat_lt, slice_index}
+use Rattle.std.specs.Prelude.{◌≡◌, ℕ, ◌+◌, ◌-◌, ◌<◌, Bool, true, false, cond, List, length, ◌==◌, nat_lt, slice_index}
 use Rattle.filter.specs.Positions.{names}
 
 -- one counter: where it is named it goes up by 1, and stops at 15
@@ -22,3 +22,9 @@ Issued positions before after = Stepped raised positions before after
 -- the counters before and after a receipt with these positions was spent
 abbrev pub Spent : List ℕ → List ℕ → List ℕ → Type 0
 Spent positions before after = Stepped lowered positions before after
+
+-- each counter that the positions name changes so, and the others remain
+pub record Changed (change : ℕ → ℕ → Type 0) (positions before after : List ℕ) : Type 0 where
+  pub long : length after ≡ length before
+  pub named : (p : ℕ) → p < length before → names positions p ≡ true → change (slice_index before p) (slice_index after p)
+  pub others : (p : ℕ) → p < length before → names positions p ≡ false → slice_index after p ≡ slice_index before p

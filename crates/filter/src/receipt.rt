@@ -35,10 +35,7 @@ impl Receipt {
         requires { place < 4 }
         ensures { result ≡ names (take place self.now.positions) (slice_index self.now.positions place) }
     {
-        let mut found = false;
-        for i in 0..place {
-            found = found | (self.positions[i] == self.positions[place]);
-        }
-        found
+        let before = &self.positions[..place];
+        before.contains(&self.positions[place])
     }
 }

@@ -1,6 +1,6 @@
 // Counters raised, lowered and read.
-ghost use Rattle.std.specs.Prelude.{◌≡◌, ℕ, ◌+◌, ◌*◌, ◌<◌, ◌≤◌, false, length, replicate, IfOk, if◌then◌else◌, MatchOption, ◌==◌, nat_lt, slice_index};
-ghost use Rattle.filter.specs.Counters.{raised, lowered, Issued, Spent};
+ghost use Rattle.std.specs.Prelude.{◌≡◌, ℕ, ◌+◌, ◌*◌, ◌<◌, ◌≤◌, length, replicate, IfOk, MatchOption, nat_lt, slice_index};
+ghost use Rattle.filter.specs.Counters.{Changed, Issued, Spent};
 ghost use Rattle.filter.specs.Summaries.{has_value};
 
 use super::CountingFilter;
@@ -28,39 +28,20 @@ impl CountingFilter {
     pub fn counter(&self, position: u32) -> Option<u8>
         ensures { MatchOption result (self.now.size.positions ≤ position) (λ c. (position < self.now.size.positions) × (c ≡ slice_index self.now.counters.items position)) }
     {
-        if position < self.size.positions {
-            Some(self.counters[position as usize])
-        } else {
-            None
-        }
+        self.counters.get(position as usize).copied()
     }
 
-    // The counter of a position goes up by 1, to 15 at most, unless it is to be left.
-    fn raise_at(&mut self, position: u32, left: bool)
+    // Each counter that a receipt names takes one step, once also where a position stands twice.
+    fn step<F: Fn(u8) -> u8>(&mut self, receipt: &Receipt, step: F)
+        requires callable { F.IsAlwaysCallable step }
+        requires small { (before after : ℕ) → before ≤ 15 → F.post step before after → after ≤ 15 }
         ensures size { self.new.size ≡ self.old.size }
-        ensures long { length self.new.counters.items ≡ length self.old.counters.items }
-        ensures each { (p : ℕ) → p < length self.old.counters.items → slice_index self.new.counters.items p ≡ raised (if left then false else (position == p)) (slice_index self.old.counters.items p) }
+        ensures stepped { Changed (F.post step) receipt.now.positions self.old.counters.items self.new.counters.items }
     {
-        let at = position as usize;
-        if !left && at < self.counters.len() {
-            let count = self.counters[at];
-            if count < 15 {
-                self.counters[at] = count + 1;
-            }
-        }
-    }
-
-    // The counter of a position goes down by 1, unless it is at 15 or to be left.
-    fn lower_at(&mut self, position: u32, left: bool)
-        ensures size { self.new.size ≡ self.old.size }
-        ensures long { length self.new.counters.items ≡ length self.old.counters.items }
-        ensures each { (p : ℕ) → p < length self.old.counters.items → slice_index self.new.counters.items p ≡ lowered (if left then false else (position == p)) (slice_index self.old.counters.items p) }
-    {
-        let at = position as usize;
-        if !left && at < self.counters.len() {
-            let count = self.counters[at];
-            if 0 < count && count != 15 {
-                self.counters[at] = count - 1;
+        for (place, position) in receipt.positions.iter().enumerate() {
+            let at = *position as usize;
+            if at < self.counters.len() && !receipt.repeats(place) {
+                self.counters[at] = step(self.counters[at]);
             }
         }
     }
@@ -70,10 +51,7 @@ impl CountingFilter {
         ensures size { self.new.size ≡ self.old.size }
         ensures issued { Issued receipt.now.positions self.old.counters.items self.new.counters.items }
     {
-        for place in 0..4 {
-            let again = receipt.repeats(place);
-            self.raise_at(receipt.positions[place], again);
-        }
+        self.step(receipt, |count| if count < 15 { count + 1 } else { count });
     }
 
     // Spends a receipt: each counter that it names goes down by 1, but one at 15 remains.
@@ -81,10 +59,13 @@ impl CountingFilter {
         ensures size { self.new.size ≡ self.old.size }
         ensures spent { Spent receipt.now.positions self.old.counters.items self.new.counters.items }
     {
-        for place in 0..4 {
-            let again = receipt.repeats(place);
-            self.lower_at(receipt.positions[place], again);
-        }
+        self.step(receipt, |count| {
+            if 0 < count && count != 15 {
+                count - 1
+            } else {
+                count
+            }
+        });
     }
 
     // One octet of the summary: a bit is 1 exactly when its counter is above 0. It is 0 past the last octet.
@@ -105,8 +86,8 @@ fn pack(counters: &[u8]) -> u8
     ensures { (k : ℕ) → k < 8 → has_value result k ≡ nat_lt 0 (slice_index counters.now k) }
 {
     let mut octet = 0;
-    for i in 0..8 {
-        octet = 2 * octet + u8::from(counters[7 - i] > 0);
+    for count in counters.iter().rev() {
+        octet = 2 * octet + u8::from(*count > 0);
     }
     octet
 }

@@ -35,24 +35,16 @@ impl Summary {
     pub fn bit(&self, position: u32) -> bool
         ensures { result ≡ bit self.now.octets.items position }
     {
-        let at = (position / 8) as usize;
-        if at < self.octets.len() {
-            (self.octets[at] >> (position % 8)) % 2 == 1
-        } else {
-            false
-        }
+        self.octets
+            .get((position / 8) as usize)
+            .is_some_and(|octet| (*octet >> (position % 8)) % 2 == 1)
     }
 
     // Whether a name with this receipt tests present.
     pub fn has(&self, receipt: &Receipt) -> bool
         ensures { result ≡ present self.now.octets.items receipt.now.positions }
     {
-        for p in receipt.positions.iter() {
-            if !self.bit(*p) {
-                return false;
-            }
-        }
-        true
+        receipt.positions.iter().all(|position| self.bit(*position))
     }
 
     // How many positions have bit 1.
@@ -60,7 +52,7 @@ impl Summary {
         ensures { result ≡ tally (bit self.now.octets.items) self.now.size.positions }
     {
         let mut count = 0;
-        for octet in self.octets.iter() {
+        for octet in &self.octets {
             count += octet.count_ones();
         }
         count
@@ -74,8 +66,8 @@ impl Summary {
             return None;
         }
         let mut count = 0;
-        for i in 0..self.octets.len() {
-            count += (self.octets[i] ^ other.octets[i]).count_ones();
+        for (one, another) in self.octets.iter().zip(other.octets.iter()) {
+            count += (*one ^ *another).count_ones();
         }
         Some(count)
     }
@@ -88,8 +80,8 @@ impl Summary {
         if filter.size().positions() != self.size.positions {
             return Err(OtherSize);
         }
-        for i in 0..self.octets.len() {
-            self.octets[i] = filter.octet(i);
+        for (at, octet) in self.octets.iter_mut().enumerate() {
+            *octet = filter.octet(at);
         }
         Ok(())
     }

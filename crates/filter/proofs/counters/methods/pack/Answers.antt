@@ -1,34 +1,48 @@
-use Rattle.std.proofs.Common.{◌≡◌, ◌+◌, ◌-◌, ◌*◌, ltb, get_or, drop, sym, ap, ◌∙◌, arith}
-use Rattle.std.proofs.lemmas.List.{drop_all}
+use Rattle.std.proofs.Common.{◌≡◌, ◌+◌, ◌-◌, ◌*◌, ltb, length, drop, sym, ap, ◌∙◌, arith, rules}
+use Rattle.std.proofs.lemmas.List.{drop_all, length_push, length-reverse}
+use Rattle.std.proofs.lemmas.Iterator.Adapters.{YieldsList-from_rev_slice}
+use Rattle.std.proofs.lemmas.Iterator.Consumers.{YieldsList-turn, YieldsList-end}
 use Rattle.filter.specs.Summaries.{has_value}
 use Rattle.filter.proofs.Octets.{packed, packed_more, packed_room, packed_value, flag_is}
 use Rattle.filter.proofs.counters.methods.pack.Goals as goal
 
-pub loop-i-init : goal.loop-i-init
-loop-i-init c = sym (ap packed (drop_all 8 c.args.counters.now (omega arith)))
+pub loop-count-init : goal.loop-count-init
+loop-count-init c = record { can = search rules; finite = search rules; packed = sym (ap packed (drop_all 8 c.args.counters.now (omega arith))) }
 
 pub overflow_mul-octet : goal.overflow_mul-octet
 overflow_mul-octet c =
-    let room = packed_room c.args.counters.now c.requires c.loop-i.i c.loop-i-test.true in
-    let e = c.loop-i.invariant in
+    let t = YieldsList-turn (YieldsList-from_rev_slice c.args.counters.now (search rules)) c.loop-count.yielded _ c.loop-count.yielded_by _ _ c.in-Some.count c.in-Some.is c.next.ensures.steps in
+    let room = packed_room c.args.counters.now c.requires (length c.loop-count.yielded) c.in-Some.count.now t.0 t.1 in
+    let e = c.loop-count.invariant.packed in
     omega arith
 
 pub overflow_add-octet : goal.overflow_add-octet
 overflow_add-octet c =
-    let room = packed_room c.args.counters.now c.requires c.loop-i.i c.loop-i-test.true in
-    let e = c.loop-i.invariant in
-    let flag = (flag_is (ltb 0 (get_or c.args.counters.now (7 - c.loop-i.i) 0))).1 in
+    let t = YieldsList-turn (YieldsList-from_rev_slice c.args.counters.now (search rules)) c.loop-count.yielded _ c.loop-count.yielded_by _ _ c.in-Some.count c.in-Some.is c.next.ensures.steps in
+    let room = packed_room c.args.counters.now c.requires (length c.loop-count.yielded) c.in-Some.count.now t.0 t.1 in
+    let e = c.loop-count.invariant.packed in
+    let flag = (flag_is (ltb 0 c.in-Some.count.now)).1 in
     let f = c.from.ensures in
     omega arith
 
-pub loop-i-preserved : goal.loop-i-preserved
-loop-i-preserved c =
-    ap (λ n. 2 * n + c.from.result) c.loop-i.invariant
-    ∙ ap (λ n. 2 * packed (drop (8 - c.loop-i.i) c.args.counters.now) + n) (c.from.ensures ∙ (flag_is (ltb 0 (get_or c.args.counters.now (7 - c.loop-i.i) 0))).0)
-    ∙ sym (packed_more c.args.counters.now c.requires c.loop-i.i c.loop-i-test.true)
+pub loop-count-preserved : goal.loop-count-preserved
+loop-count-preserved c =
+    let cs = c.args.counters.now in
+    let i = length c.loop-count.yielded in
+    let t = YieldsList-turn (YieldsList-from_rev_slice cs (search rules)) c.loop-count.yielded _ c.loop-count.yielded_by _ _ c.in-Some.count c.in-Some.is c.next.ensures.steps in
+    record {
+      can = search rules;
+      finite = search rules;
+      packed =
+          ap (λ n. 2 * n + c.from.result) c.loop-count.invariant.packed
+          ∙ ap (λ n. 2 * packed (drop (8 - i) cs) + n) (c.from.ensures ∙ (flag_is (ltb 0 c.in-Some.count.now)).0)
+          ∙ packed_more cs c.requires i c.in-Some.count.now t.0 t.1
+          ∙ ap (λ n. packed (drop (8 - n) cs)) (sym (length_push c.loop-count.yielded c.in-Some.count));
+    }
 
 pub returns : goal.returns
 returns c k below =
     let cs = c.args.counters.now in
-    let all : 8 - c.loop-i.i ≡ 0 = omega arith in
-    ap (λ n. has_value n k) (c.loop-i.invariant ∙ ap (λ n. packed (drop n cs)) all) ∙ packed_value cs k (omega arith)
+    let t = YieldsList-end (YieldsList-from_rev_slice cs (search rules)) c.loop-count.yielded _ c.loop-count.yielded_by _ _ c.in-None.is c.next.ensures.steps in
+    let all : 8 - length c.loop-count.yielded ≡ 0 = omega (arith, t.1, length-reverse cs) in
+    ap (λ n. has_value n k) (c.loop-count.invariant.packed ∙ ap (λ n. packed (drop n cs)) all) ∙ packed_value cs k (omega arith)
