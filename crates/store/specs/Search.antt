@@ -1,10 +1,8 @@
 -- The search of the hashed index.
-use Rattle.std.specs.Prelude.{◌≡◌, ℕ, ◌+◌, ◌%◌, ◌<◌, List, Some, None, Option, slice_index, slice_index_or}
+use Rattle.std.specs.Prelude.{◌≡◌, ℕ, ◌+◌, ◌%◌, ◌<◌, Bool, true, false, List, Some, None, Option, slice_index, slice_index_or}
 use Rattle.digest.specs.Fnv.{fnv_words}
 use Rattle.store.specs.declared.cell.Cell.{Cell}
 use Rattle.store.specs.declared.cell.Cell.TheVariants.{Never, Freed, Taken}
-use Rattle.store.specs.declared.parts.methods.Look.{Look}
-use Rattle.store.specs.declared.parts.methods.Look.TheVariants.{Ends, GoesOn, Finds}
 use Rattle.store.specs.Contents.{Contents, Bears}
 
 -- the cell at which the search for a name starts: the first word of its FNV, modulo 2,048
@@ -21,11 +19,27 @@ Passes rows name Never = ⊥
 Passes rows name Freed = Unit {0}
 Passes rows name (Taken i) = Bears (slice_index_or rows i None) name → ⊥
 
--- what a look at a cell tells
-abbrev pub Looks : Contents → List ℕ → Cell → Look → Type 0
-Looks rows name c Ends = c ≡ Never
-Looks rows name c GoesOn = Passes rows name c
-Looks rows name c (Finds place) = (c ≡ Taken place) × Bears (slice_index_or rows place None) name
+-- it ends at a cell that was never used, and at a row of the name
+abbrev pub Ends : Contents → List ℕ → Cell → Type 0
+Ends rows name Never = Unit {0}
+Ends rows name Freed = ⊥
+Ends rows name (Taken i) = Bears (slice_index_or rows i None) name
+
+-- the place in a cell
+abbrev pub place_in : Cell → Option ℕ
+place_in Never = None
+place_in Freed = None
+place_in (Taken i) = Some i
+
+-- a test, by its answers, stops at none of the first j cells on the way of the search for a name
+pub record NeverStops (stop : Cell → Bool → Type 0) (cells : List Cell) (name : List ℕ) (j : ℕ) : Type 0 where
+  pub passed : (k : ℕ) → k < j → stop (cell cells name k) false
+
+-- it stops after so many cells, and not before
+pub record StopsAt (stop : Cell → Bool → Type 0) (cells : List Cell) (name : List ℕ) (steps : ℕ) : Type 0 where
+  pub short : steps < 2048
+  pub here : stop (cell cells name steps) true
+  pub before : NeverStops stop cells name steps
 
 -- it goes past the first j cells
 abbrev pub Passed : Contents → List Cell → List ℕ → ℕ → Type 0

@@ -16,7 +16,7 @@ pub use cell::Cell;
 pub use index::HashedIndex;
 pub use laws::search_law;
 pub use parts::{CELLS, Probe};
-pub use records::{good_name, good_worth};
+pub use records::{Record, good_name, good_worth};
 pub use refusals::StoreFault;
 pub use row::Row;
 pub use stores::Store;

@@ -3,13 +3,18 @@ ghost use Rattle.std.specs.Prelude.{◌≤◌};
 
 mod methods;
 
-// The name, size and cost of a record, or a free row.
+// A record in memory. A store takes no other memory than its rows, so the name stands at the front of octets of its own.
 #[derive(Clone, Copy)]
-pub struct Row {
+struct Stored {
     name: [u8; 128],
     len: u8,
     size: u32,
     cost: u16,
-    used: bool,
     ghost short: { len ≤ 128 },
+}
+
+// The record in a row, or none where the row is free.
+#[derive(Clone, Copy)]
+pub struct Row {
+    stored: Option<Stored>,
 }

@@ -1,8 +1,9 @@
 // What every store does.
-ghost use Rattle.std.specs.Prelude.{◌≡◌, length, None as Nothing, MatchOption, MatchResult, slice_index_or, slice_set};
-ghost use Rattle.store.specs.Contents.{Contents, Unique, Named, Absent, Held, Added, Unaddable};
-ghost use Rattle.store.specs.Rows.{content};
+ghost use Rattle.std.specs.Prelude.{◌≡◌, ℕ, length, None as Nothing, MatchOption, MatchResult, slice_index_or, slice_set};
+ghost use Rattle.store.specs.Contents.{Contents, Unique, Named, Absent, Held, Free, Addable, Added, Unaddable};
+ghost use Rattle.store.specs.Rows.{content, given};
 
+use crate::records::Record;
 use crate::refusals::StoreFault;
 use crate::row::Row;
 
@@ -20,14 +21,41 @@ pub trait Store {
         ensures { MatchOption result (Absent (rows self.now) name.now) (λ place. Named (rows self.now) place name.now) };
 
     // A record comes to a free place of the store's choice, which is answered.
-    fn add(&mut self, name: &[u8], size: u32, cost: u16) -> Result<usize, StoreFault>
-        ensures { MatchResult result (λ place. Added (rows self.old) (record { name = name.now; size = size; cost = cost }) place (rows self.new)) (λ f. (f ≡ StoreFault.NotAdded) × Unaddable (rows self.old) (record { name = name.now; size = size; cost = cost }) × (self.new ≡ self.old)) };
+    fn add(&mut self, new: Record<'_>) -> Result<usize, StoreFault>
+        ensures { MatchResult result (λ place. Added (rows self.old) (given new.entry) place (rows self.new)) (λ f. (f ≡ StoreFault.NotAdded) × Unaddable (rows self.old) (given new.entry) × (self.new ≡ self.old)) };
 
     // The row at a place leaves.
     fn remove(&mut self, place: usize) -> Result<(), StoreFault>
         ensures { MatchResult result (λ _. Held (rows self.old) place × (rows self.new ≡ slice_set (rows self.old) place Nothing)) (λ f. (f ≡ StoreFault.NoRow) × (slice_index_or (rows self.old) place Nothing ≡ Nothing) × (self.new ≡ self.old)) };
 
+    // The first free place.
+    fn free_place(&self) -> Option<usize>
+        ensures { MatchOption result ((i : ℕ) → Free (rows self.now) i → ⊥) (λ i. Free (rows self.now) i) };
+
+    // A free place for a record that may be added.
+    fn place_for(&self, new: Record<'_>) -> Option<usize>
+        ensures { MatchOption result (Unaddable (rows self.now) (given new.entry)) (λ place. Addable (rows self.now) (given new.entry) place) }
+    {
+        if !new.is_good() || self.find(new.name).is_some() {
+            return None;
+        }
+        self.free_place()
+    }
+
+    // The row at a place, or none where no record is there.
+    fn row(&self, place: usize) -> Option<Row>
+        ensures { MatchOption result (slice_index_or (rows self.now) place Nothing ≡ Nothing) (λ row. Held (rows self.now) place × (content row ≡ slice_index_or (rows self.now) place Nothing)) };
+
     // The row at a place is copied into the row that is lent.
     fn read(&self, place: usize, row: &mut Row) -> Result<(), StoreFault>
-        ensures { MatchResult result (λ _. Held (rows self.now) place × (content row.new ≡ slice_index_or (rows self.now) place Nothing)) (λ f. (f ≡ StoreFault.NoRow) × (slice_index_or (rows self.now) place Nothing ≡ Nothing) × (row.new ≡ row.old)) };
+        ensures { MatchResult result (λ _. Held (rows self.now) place × (content row.new ≡ slice_index_or (rows self.now) place Nothing)) (λ f. (f ≡ StoreFault.NoRow) × (slice_index_or (rows self.now) place Nothing ≡ Nothing) × (row.new ≡ row.old)) }
+    {
+        match self.row(place) {
+            Some(here) => {
+                *row = here;
+                Ok(())
+            }
+            None => Err(StoreFault::NoRow),
+        }
+    }
 }

@@ -16,9 +16,7 @@ use crate::row::Row;
 fn clear_cells(cells: &mut [Cell])
     ensures { cells.new ≡ replicate (length cells.old) Unused }
 {
-    for cell in cells.iter_mut() {
-        *cell = Cell::Never;
-    }
+    cells.fill(Cell::Never);
 }
 
 impl<'a> HashedIndex<'a> {

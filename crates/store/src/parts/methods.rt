@@ -1,14 +1,14 @@
 // Cells searched, taken and freed.
-ghost use Rattle.std.specs.Prelude.{◌≡◌, ℕ, ◌+◌, ◌%◌, ◌<◌, ◌≤◌, false, length, Some as Just, None as Nothing, Decides, MatchOption, ◌≢◌, slice_index_or, slice_set};
+ghost use Rattle.std.specs.Prelude.{◌≡◌, ℕ, ◌+◌, ◌%◌, ◌<◌, ◌≤◌, length, Some as Just, None as Nothing, Decides, MatchOption, ◌≢◌, slice_index_or, slice_set};
 ghost use Rattle.store.specs.declared.cell.Cell.TheVariants.{Never as Unused, Freed as Emptied, Taken as Placed};
-ghost use Rattle.store.specs.Contents.{Held, Free, Good};
 ghost use Rattle.store.specs.Indexed.{Opens};
-ghost use Rattle.store.specs.Rows.{content, contents};
-ghost use Rattle.store.specs.Search.{start, cell, Looks, Search};
+ghost use Rattle.store.specs.Rows.{contents, given};
+ghost use Rattle.store.specs.Search.{start, cell, Ends, NeverStops, StopsAt, Search};
 
 use super::{CELLS, Parts};
 use crate::cell::Cell;
-use crate::lent::{has_name, place_for, row_at};
+use crate::lent::has_name;
+use crate::records::Record;
 use crate::row::Row;
 use digest::{Digest, Fnv};
 
@@ -19,13 +19,6 @@ pub struct Probe {
     pub looked: usize,
 }
 
-// What a cell means to the search for a name: the search ends, goes on, or has found the place.
-pub enum Look {
-    Ends,
-    GoesOn,
-    Finds(usize),
-}
-
 // The cell at which the search for a name starts.
 fn start_cell(name: &[u8]) -> usize
     ensures { result ≡ start name.now }
@@ -33,37 +26,38 @@ fn start_cell(name: &[u8]) -> usize
     Fnv.words(name)[0] as usize % CELLS
 }
 
+// The cell that a search comes to after others: upward, and around.
+fn cell_after(start: usize, steps: usize) -> usize
+    requires { (start < 2048) × (steps < 2048) }
+    ensures { result ≡ (start + steps) % 2048 }
+{
+    (start + steps) % CELLS
+}
+
 impl Parts<'_> {
-    // The row of the record at a place.
-    pub(crate) fn row(&self, place: usize) -> Option<Row>
-        ensures { MatchOption result (slice_index_or (contents self.now.rows.now) place Nothing ≡ Nothing) (λ row. Held (contents self.now.rows.now) place × (content row ≡ slice_index_or (contents self.now.rows.now) place Nothing)) }
+    // How many cells the search for a name goes past before the first at which to stop.
+    fn steps_to<F: Fn(Cell) -> bool>(&self, name: &[u8], stop: F) -> Option<usize>
+        requires all { length self.now.cells.now ≡ 2048 }
+        requires callable { F.IsAlwaysCallable stop }
+        ensures { MatchOption result (NeverStops (F.post stop) self.now.cells.now name.now 2048) (λ steps. StopsAt (F.post stop) self.now.cells.now name.now steps) }
     {
-        row_at(self.rows, place)
-    }
-
-    // A free place for a good record whose name is not held.
-    pub(crate) fn place_for(&self, held: bool, name: &[u8], size: u32, cost: u16) -> Option<usize>
-        ensures { MatchOption result (Good (record { name = name.now; size = size; cost = cost }) → held ≡ false → (i : ℕ) → Free (contents self.now.rows.now) i → ⊥) (λ place. Good (record { name = name.now; size = size; cost = cost }) × (held ≡ false) × Free (contents self.now.rows.now) place) }
-    {
-        place_for(self.rows, held, name, size, cost)
-    }
-
-    // Looks at one cell.
-    fn look(&self, at: usize, name: &[u8]) -> Look
-        requires { at < length self.now.cells.now }
-        ensures { Looks (contents self.now.rows.now) name.now (slice_index_or self.now.cells.now at Unused) result }
-    {
-        match self.cells[at] {
-            Cell::Never => Look::Ends,
-            Cell::Freed => Look::GoesOn,
-            Cell::Taken(place) => {
-                let place = place as usize;
-                if has_name(self.rows, place, name) {
-                    Look::Finds(place)
-                } else {
-                    Look::GoesOn
-                }
+        let start = start_cell(name);
+        for steps in 0..CELLS {
+            if stop(self.cells[cell_after(start, steps)]) {
+                return Some(steps);
             }
+        }
+        None
+    }
+
+    // Whether the search for a name ends at a cell: it was never used, or has the place of the name.
+    fn ends(&self, cell: Cell, name: &[u8]) -> bool
+        ensures { Decides result (Ends (contents self.now.rows.now) name.now cell) }
+    {
+        match cell {
+            Cell::Never => true,
+            Cell::Freed => false,
+            Cell::Taken(place) => has_name(self.rows, place as usize, name),
         }
     }
 
@@ -72,23 +66,15 @@ impl Parts<'_> {
         requires { length self.now.cells.now ≡ 2048 }
         ensures { Search (contents self.now.rows.now) self.now.cells.now name.now result.place result.looked }
     {
-        let start = start_cell(name);
-        for j in 0..CELLS {
-            match self.look((start + j) % CELLS, name) {
-                Look::Ends => return Probe {
-                    place: None,
-                    looked: j + 1,
-                },
-                Look::GoesOn => {}
-                Look::Finds(place) => return Probe {
-                    place: Some(place),
-                    looked: j + 1,
-                },
-            }
-        }
-        Probe {
-            place: None,
-            looked: CELLS,
+        match self.steps_to(name, |cell| self.ends(cell, name)) {
+            Some(steps) => Probe {
+                place: self.cells[cell_after(start_cell(name), steps)].place(),
+                looked: steps + 1,
+            },
+            None => Probe {
+                place: None,
+                looked: CELLS,
+            },
         }
     }
 
@@ -97,14 +83,8 @@ impl Parts<'_> {
         requires { length self.now.cells.now ≡ 2048 }
         ensures { Opens self.now.cells.now name.now result }
     {
-        let start = start_cell(name);
-        for j in 0..CELLS {
-            let at = (start + j) % CELLS;
-            if !matches!(self.cells[at], Cell::Taken(_)) {
-                return Some(at);
-            }
-        }
-        None
+        let steps = self.steps_to(name, |cell| !matches!(cell, Cell::Taken(_)))?;
+        Some(cell_after(start_cell(name), steps))
     }
 
     // The cell, on the way of the search for a name, that a place is in.
@@ -112,37 +92,20 @@ impl Parts<'_> {
         requires { length self.now.cells.now ≡ 2048 }
         ensures { MatchOption result ((j : ℕ) → j < 2048 → cell self.now.cells.now name.now j ≢ Placed place) (λ at. (at < 2048) × (slice_index_or self.now.cells.now at Unused ≡ Placed place)) }
     {
-        let start = start_cell(name);
-        for j in 0..CELLS {
-            let at = (start + j) % CELLS;
-            if self.has_place(at, place) {
-                return Some(at);
-            }
-        }
-        None
-    }
-
-    // Whether a place is in a cell.
-    fn has_place(&self, at: usize, place: usize) -> bool
-        requires { at < length self.now.cells.now }
-        ensures { Decides result (slice_index_or self.now.cells.now at Unused ≡ Placed place) }
-    {
-        match self.cells[at] {
-            Cell::Taken(i) => i as usize == place,
-            _ => false,
-        }
+        let steps = self.steps_to(name, |cell| cell.place() == Some(place))?;
+        Some(cell_after(start_cell(name), steps))
     }
 
     // A record comes to a place, and the place into a cell.
-    pub(crate) fn put(&mut self, at: usize, place: usize, name: &[u8], size: u32, cost: u16)
+    pub(crate) fn put(&mut self, at: usize, place: usize, new: Record<'_>)
         requires cell_within { at < length self.old.cells.now }
         requires row_within { place < length self.old.rows.now }
         requires place_fits { place < 65536 }
-        requires name_short { length name.now ≤ 128 }
-        ensures rows { contents self.new.rows.now ≡ slice_set (contents self.old.rows.now) place (Just (record { name = name.now; size = size; cost = cost })) }
+        requires name_short { length new.name.now ≤ 128 }
+        ensures rows { contents self.new.rows.now ≡ slice_set (contents self.old.rows.now) place (Just (given new.entry)) }
         ensures cells { self.new.cells.now ≡ slice_set self.old.cells.now at (Placed place) }
     {
-        self.rows[place] = Row::filled(name, size, cost);
+        self.rows[place] = Row::filled(new);
         self.cells[at] = Cell::Taken(place as u16);
     }
 

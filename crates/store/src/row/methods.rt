@@ -1,37 +1,42 @@
 // Rows made and read.
-ghost use Rattle.std.specs.Prelude.{◌≡◌, ◌≤◌, length, take, is_some, Some as Just, None as Nothing, Decides};
-ghost use Rattle.store.specs.Contents.{Content, Bears};
-ghost use Rattle.store.specs.Rows.{content};
+ghost use Rattle.std.specs.Prelude.{◌≡◌, ◌≤◌, length, is_some, Some as Just, None as Nothing, Decides};
+ghost use Rattle.store.specs.Contents.{Bears, Content};
+ghost use Rattle.store.specs.Rows.{content, given, stored, name_in, size_in, cost_in};
 
-use super::Row;
+use super::{Row, Stored};
+use crate::records::Record;
+
+impl Stored {
+    // The octets of the name.
+    fn name(&self) -> &[u8]
+        ensures { result.now ≡ (stored self.now).name }
+    {
+        &self.name[..self.len as usize]
+    }
+}
 
 impl Row {
     // A free row.
     pub const fn free() -> Row
         ensures { content result ≡ Nothing }
     {
-        Row {
-            name: [0; 128],
-            len: 0,
-            size: 0,
-            cost: 0,
-            used: false,
-        }
+        Row { stored: None }
     }
 
-    // A row that is used.
-    pub(crate) fn filled(name: &[u8], size: u32, cost: u16) -> Row
-        requires { length name.now ≤ 128 }
-        ensures { content result ≡ Just (record { name = name.now; size = size; cost = cost }) }
+    // A row with a record.
+    pub(crate) fn filled(new: Record<'_>) -> Row
+        requires { length new.name.now ≤ 128 }
+        ensures { content result ≡ Just (given new.entry) }
     {
-        let mut octets = [0; 128];
-        octets[0..name.len()].copy_from_slice(name);
+        let mut name = [0; 128];
+        name[..new.name.len()].copy_from_slice(new.name);
         Row {
-            name: octets,
-            len: name.len() as u8,
-            size,
-            cost,
-            used: true,
+            stored: Some(Stored {
+                name,
+                len: new.name.len() as u8,
+                size: new.size,
+                cost: new.cost,
+            }),
         }
     }
 
@@ -39,37 +44,43 @@ impl Row {
     pub(crate) fn is_used(&self) -> bool
         ensures { result ≡ is_some (content self.now) }
     {
-        self.used
+        self.stored.is_some()
     }
 
-    // The octets of the name.
+    // The octets of the name, and none in a free row.
     pub fn name(&self) -> &[u8]
-        ensures is { result.now ≡ take self.now.len self.now.name }
+        ensures is { result.now ≡ name_in (content self.now) }
         ensures held { (c : Content) → content self.now ≡ Just c → result.now ≡ c.name }
     {
-        &self.name[..self.len as usize]
+        match &self.stored {
+            Some(stored) => stored.name(),
+            None => &[],
+        }
     }
 
-    // The size of the record.
+    // The size of the record, and 0 in a free row.
     pub fn size(&self) -> u32
-        ensures is { result ≡ self.now.size }
+        ensures is { result ≡ size_in (content self.now) }
         ensures held { (c : Content) → content self.now ≡ Just c → result ≡ c.size }
     {
-        self.size
+        self.stored.map_or(0, |stored| stored.size)
     }
 
-    // The cost of the record.
+    // The cost of the record, and 0 in a free row.
     pub fn cost(&self) -> u16
-        ensures is { result ≡ self.now.cost }
+        ensures is { result ≡ cost_in (content self.now) }
         ensures held { (c : Content) → content self.now ≡ Just c → result ≡ c.cost }
     {
-        self.cost
+        self.stored.map_or(0, |stored| stored.cost)
     }
 
     // Whether the row has a record of this name.
     pub(crate) fn is_named(&self, name: &[u8]) -> bool
         ensures { Decides result (Bears (content self.now) name.now) }
     {
-        self.used && &self.name[0..self.len as usize] == name
+        match &self.stored {
+            Some(stored) => stored.name() == name,
+            None => false,
+        }
     }
 }

@@ -1,20 +1,18 @@
-use Rattle.std.proofs.Common.{◌+◌, ◌%◌, get_or, sym, ap, ◌∙◌, arith}
+use Rattle.std.proofs.Common.{◌+◌, ◌%◌, get_or, sym, ap, ◌∙◌, subst, rules}
+use borrow.Author.Tests.{tests}
 use Rattle.store.specs.declared.cell.Cell.TheVariants.{Never}
-use Rattle.store.specs.Search.{at_name, at_never, at_end}
+use Rattle.store.specs.Rows.{contents}
+use Rattle.store.specs.Search.{place_in, Search}
+use Rattle.store.proofs.Searches.{stopped, never_stopped}
 use Rattle.store.proofs.parts.Parts.search.Goals as goal
 
-pub returns-in-Ends : goal.returns-in-Ends
-returns-in-Ends c =
+pub returns-in-Some : goal.returns-in-Some
+returns-in-Some c =
+    let rows = contents c.args.self.now.rows.now in
     let cells = c.args.self.now.cells.now in
-    let j = c.loop-j.j in
-    at_never j c.loop-j-test.true (ap (λ s. get_or cells ((s + j) % 2048) Never) (sym c.start_cell-start.ensures) ∙ c.in-Ends.ensures) c.loop-j.invariant
+    let name = c.args.name.now in
+    let steps = c.in-Some.steps in
+    subst (λ p. Search rows cells name p (steps + 1)) (search rules) (stopped rows cells name _ steps c.in-Some.ensures (λ x b p. search (rules, tests)))
 
-pub returns-in-Finds : goal.returns-in-Finds
-returns-in-Finds c =
-    let cells = c.args.self.now.cells.now in
-    let j = c.loop-j.j in
-    let found = c.in-Finds.ensures in
-    at_name j c.in-Finds.place c.loop-j-test.true (ap (λ s. get_or cells ((s + j) % 2048) Never) (sym c.start_cell-start.ensures) ∙ found.0) found.1 c.loop-j.invariant
-
-pub returns : goal.returns
-returns c = at_end (λ k h. c.loop-j.invariant k (omega arith))
+pub returns-in-None : goal.returns-in-None
+returns-in-None c = never_stopped _ _ _ _ c.in-None.ensures (λ x b p. search (rules, tests))

@@ -1,37 +1,24 @@
-use Rattle.std.proofs.Common.{◌≡◌, ◌≤◌, length, Some, sym, ap, ◌∙◌, subst, arith}
+use Rattle.std.proofs.Common.{◌≡◌, ◌≤◌, length, Some, None, sym, ap, ◌∙◌, subst, arith, rules}
 use Rattle.std.proofs.lemmas.List.{length-set}
 use Rattle.store.specs.declared.cell.Cell.TheVariants.{Taken}
-use Rattle.store.specs.Contents.{Content, Unique}
-use Rattle.store.specs.Indexed.{Points, Once, Reaches, Paired}
-use Rattle.store.specs.Rows.{contents}
+use Rattle.store.specs.Contents.{Addable, Unique}
+use Rattle.store.specs.Indexed.{Points, Once, Reaches, Paired, Open, Opens}
+use Rattle.store.specs.Rows.{contents, given}
 use Rattle.store.proofs.Linking.{put_points, put_once, put_reaches, put_paired, some_open, moved}
 use Rattle.store.proofs.Memory as memory
 use Rattle.store.proofs.Places.{unique_put}
 use Rattle.store.proofs.index.impls.HashedIndexStore.add.Goals as goal
 
-pub put-requires : goal.put-requires
-put-requires c =
-    let s = c.args.self.now in
-    let may = c.in-Some.ensures in
-    let vacant = c.in-Some-open_cell.ensures in
-    let w = may.free.within in
-    let l = memory.long s.parts.rows.now in
-    let most = s.most in
-    let all = s.all in
-    let at = vacant.at_is in
-    let short = may.good.named.short in
-    record { cell_within = omega arith; row_within = omega arith; place_fits = omega arith; name_short = omega arith }
-
 pub invariant_of-self : goal.invariant_of-self
 invariant_of-self c =
     let s = c.args.self.now in
-    let may = c.in-Some.ensures in
-    let vacant = c.in-Some-open_cell.ensures in
     let rows = contents s.parts.rows.now in
     let cells = s.parts.cells.now in
-    let place = c.in-Some.place in
-    let at = c.in-Some-open_cell.at in
-    let new : Content = record { name = c.args.name.now; size = c.args.size; cost = c.args.cost } in
+    let place = c.in_ok-place.place in
+    let at = c.in_ok-at.at in
+    let new = given c.args.new in
+    let may : Addable rows new place = search rules in
+    let vacant : Open cells new.name at = search rules in
     let free = may.free.empty in
     let inside = may.free.within in
     let rows_are = c.put.ensures.rows in
@@ -54,8 +41,9 @@ invariant_of-self c =
       paired = moved Paired rows_are cells_are (put_paired rows cells place at new all free inside vacant s.points s.once s.reaches s.paired);
     }
 
-pub returns-in-None : goal.returns-in-None
-returns-in-None c =
+pub returns-in_err-at-clause-rows : goal.returns-in_err-at-clause-rows
+returns-in_err-at-clause-rows c =
     let s = c.args.self.now in
     let few : length (contents s.parts.rows.now) ≤ 1024 = let l = memory.long s.parts.rows.now in let most = s.most in omega arith in
-    absurd (some_open (contents s.parts.rows.now) s.parts.cells.now c.args.name.now s.all few s.paired c.in-None.ensures)
+    let full : Opens s.parts.cells.now c.args.new.name.now None = search rules in
+    absurd (some_open (contents s.parts.rows.now) s.parts.cells.now c.args.new.name.now s.all few s.paired full)

@@ -1,33 +1,24 @@
-use Rattle.std.proofs.Common.{◌≡◌, ◌<◌, length, Some, None, sym, ap, ◌∙◌, subst, arith}
+use Rattle.std.proofs.Common.{◌≡◌, ℕ, ◌<◌, length, get_or, Some, None, sym, ap, ◌∙◌, subst, arith, rules}
 use Rattle.std.proofs.lemmas.List.{length-set}
-use Rattle.store.specs.declared.cell.Cell.TheVariants.{Freed}
+use Rattle.store.specs.declared.cell.Cell.TheVariants.{Never, Freed, Taken}
 use Rattle.store.specs.Contents.{Unique}
 use Rattle.store.specs.Indexed.{Points, Once, Reaches, Paired}
+use Rattle.store.specs.Search.{cell}
 use Rattle.store.specs.Rows.{content, contents}
 use Rattle.store.proofs.Linking.{freed_points, freed_once, freed_reaches, freed_paired, unreached, moved}
 use Rattle.store.proofs.Memory as memory
 use Rattle.store.proofs.Places.{unique_freed}
 use Rattle.store.proofs.index.impls.HashedIndexStore.remove.Goals as goal
 
-pub release-requires : goal.release-requires
-release-requires c =
-    let s = c.args.self.now in
-    let held = c.in-Some.ensures.0 in
-    let w = held.within in
-    let l = memory.long s.parts.rows.now in
-    let all = s.all in
-    let short = c.in-Some-cell_of.ensures.0 in
-    record { cell_within = omega arith; row_within = omega arith }
-
 pub invariant_of-self : goal.invariant_of-self
 invariant_of-self c =
     let s = c.args.self.now in
     let held = c.in-Some.ensures.0 in
-    let found = c.in-Some-cell_of.ensures in
+    let found : (c.in_ok-at.at < 2048) × (get_or s.parts.cells.now c.in_ok-at.at Never ≡ Taken c.args.place) = search rules in
     let rows = contents s.parts.rows.now in
     let cells = s.parts.cells.now in
     let place = c.args.place in
-    let at = c.in-Some-cell_of.at in
+    let at = c.in_ok-at.at in
     let inside = held.within in
     let within : at < length cells = let short = found.0 in let all = s.all in omega arith in
     let rows_are = c.release.ensures.rows in
@@ -50,11 +41,12 @@ invariant_of-self c =
       paired = moved Paired rows_are cells_are (freed_paired rows cells place at held.row held.here inside within found.1 s.points s.once s.reaches s.paired);
     }
 
-pub returns-in-None : goal.returns-in-None
-returns-in-None c =
+pub returns-in_err-at-clause-rows : goal.returns-in_err-at-clause-rows
+returns-in_err-at-clause-rows c =
     let s = c.args.self.now in
     let held = c.in-Some.ensures.0 in
     let is : content c.in-Some.row ≡ Some held.row = c.in-Some.ensures.1 ∙ held.here in
+    let none : (j : ℕ) → j < 2048 → cell s.parts.cells.now c.name.result.now j ≡ Taken c.args.place → ⊥ = search rules in
     absurd
     (unreached (contents s.parts.rows.now) s.parts.cells.now c.args.place held.row held.here s.reaches c.name.result.now
-    (c.name.ensures.held held.row is) c.in-None.ensures)
+    (c.name.ensures.held held.row is) none)

@@ -1,21 +1,10 @@
-use Rattle.std.proofs.Common.{◌≡◌, set, None, sym, ap, ◌∙◌, subst, arith}
+use Rattle.std.proofs.Common.{◌≡◌, set, None, sym, ap, ◌∙◌, subst, arith, rules}
 use Rattle.std.proofs.lemmas.List.{length-set}
-use Rattle.store.specs.Contents.{Unique}
+use Rattle.store.specs.Contents.{Held, Unique}
 use Rattle.store.specs.Rows.{contents}
 use Rattle.store.proofs.Memory as memory
 use Rattle.store.proofs.Places.{unique_freed}
 use Rattle.store.proofs.table.impls.TableStore.remove.Goals as goal
-
-pub bounds-self-place : goal.bounds-self-place
-bounds-self-place c = let held = c.in-Some.ensures.0 in let w = held.within in let l = memory.long c.args.self.now.rows.now in omega arith
-
-pub offset_bounds-self-place : goal.offset_bounds-self-place
-offset_bounds-self-place c =
-    let held = c.in-Some.ensures.0 in
-    let w = held.within in
-    let l = memory.long c.args.self.now.rows.now in
-    let most = c.args.self.now.most in
-    omega arith
 
 pub invariant_of-self : goal.invariant_of-self
 invariant_of-self c =
@@ -30,8 +19,9 @@ invariant_of-self c =
       unique = subst Unique (sym is) (unique_freed (contents rs) place c.args.self.now.unique);
     }
 
-pub returns-in-Some : goal.returns-in-Some
-returns-in-Some c =
+pub returns : goal.returns
+returns c =
     let rs = c.args.self.now.rows.now in
     let place = c.args.place in
-    (c.in-Some.ensures.0, memory.written rs place c.free.result ∙ ap (set (contents rs) place) c.free.ensures)
+    let held : Held (contents rs) place = search rules in
+    (held, memory.written rs place c.free.result ∙ ap (set (contents rs) place) c.free.ensures)
