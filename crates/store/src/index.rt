@@ -16,7 +16,6 @@ pub struct HashedIndex<'a> {
     ghost some: { 1 ≤ length parts.rows.now },
     ghost most: { length parts.rows.now ≤ 1024 },
     ghost unique: { Unique (contents parts.rows.now) },
-    ghost all: { length parts.cells.now ≡ 2048 },
     ghost points: { Points (contents parts.rows.now) parts.cells.now },
     ghost once: { Once parts.cells.now },
     ghost reaches: { Reaches (contents parts.rows.now) parts.cells.now },

@@ -1,9 +1,24 @@
 // Lent rows, by place.
-ghost use Rattle.std.specs.Prelude.{◌≡◌, ℕ, length, replicate, None as Nothing, Decides, MatchOption, slice_index_or};
+ghost use Rattle.std.specs.Prelude.{◌≡◌, ℕ, length, replicate, None as Nothing, Decides, MatchOption, MatchResult, slice_index_or};
+ghost use Rattle.store.specs.Beginning.{Allowed, Unbegun};
 ghost use Rattle.store.specs.Contents.{Bears, Held, Free, Absent, Named};
 ghost use Rattle.store.specs.Rows.{content, contents};
 
+use crate::refusals::StoreFault;
 use crate::row::Row;
+
+// Refuses a number of places that is not 1 to 1,024, and lent rows of another number.
+pub fn check_places(places: usize, rows: usize) -> Result<(), StoreFault>
+    ensures { MatchResult result (λ _. Allowed places × (rows ≡ places)) (λ f. Unbegun f places rows) }
+{
+    if !(1..=1024).contains(&places) {
+        return Err(StoreFault::Places);
+    }
+    if rows != places {
+        return Err(StoreFault::Length);
+    }
+    Ok(())
+}
 
 // Every row becomes free.
 pub fn clear_rows(rows: &mut [Row])

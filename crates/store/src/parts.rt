@@ -1,4 +1,6 @@
 // Rows, and the cells by which they are found.
+ghost use Rattle.std.specs.Prelude.{◌≡◌, length};
+
 use crate::cell::Cell;
 use crate::row::Row;
 
@@ -14,4 +16,5 @@ pub const CELLS: usize = 2048;
 pub struct Parts<'a> {
     pub(crate) rows: &'a mut [Row],
     pub(crate) cells: &'a mut [Cell],
+    ghost all: { length cells.now ≡ 2048 },
 }

@@ -7,7 +7,7 @@ ghost use Rattle.store.specs.Search.{Search};
 
 use super::HashedIndex;
 use crate::cell::Cell;
-use crate::lent::clear_rows;
+use crate::lent::{check_places, clear_rows};
 use crate::parts::{CELLS, Parts, Probe};
 use crate::refusals::StoreFault;
 use crate::row::Row;
@@ -28,10 +28,10 @@ impl<'a> HashedIndex<'a> {
     ) -> Result<HashedIndex<'a>, (StoreFault, &'a mut [Row], &'a mut [Cell])>
         ensures { MatchResult result (λ x. Allowed places × (contents x.parts.rows.now ≡ replicate places Nothing) × (x.parts.cells.now ≡ replicate 2048 Unused)) (λ e. Unindexed e.0 places (length rows.old) (length cells.old) × (e.1.now ≡ rows.old) × (e.2.now ≡ cells.old)) }
     {
-        if places < 1 || places > 1024 {
-            return Err((StoreFault::Places, rows, cells));
+        if let Err(fault) = check_places(places, rows.len()) {
+            return Err((fault, rows, cells));
         }
-        if rows.len() != places || cells.len() != CELLS {
+        if cells.len() != CELLS {
             return Err((StoreFault::Length, rows, cells));
         }
         clear_rows(rows);

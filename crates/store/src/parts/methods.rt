@@ -37,7 +37,6 @@ fn cell_after(start: usize, steps: usize) -> usize
 impl Parts<'_> {
     // How many cells the search for a name goes past before the first at which to stop.
     fn steps_to<F: Fn(Cell) -> bool>(&self, name: &[u8], stop: F) -> Option<usize>
-        requires all { length self.now.cells.now ≡ 2048 }
         requires callable { F.IsAlwaysCallable stop }
         ensures { MatchOption result (NeverStops (F.post stop) self.now.cells.now name.now 2048) (λ steps. StopsAt (F.post stop) self.now.cells.now name.now steps) }
     {
@@ -63,7 +62,6 @@ impl Parts<'_> {
 
     // Searches for a name, cell by cell.
     pub(crate) fn search(&self, name: &[u8]) -> Probe
-        requires { length self.now.cells.now ≡ 2048 }
         ensures { Search (contents self.now.rows.now) self.now.cells.now name.now result.place result.looked }
     {
         match self.steps_to(name, |cell| self.ends(cell, name)) {
@@ -80,7 +78,6 @@ impl Parts<'_> {
 
     // The first cell, on the way of the search for a name, that no place is in.
     pub(crate) fn open_cell(&self, name: &[u8]) -> Option<usize>
-        requires { length self.now.cells.now ≡ 2048 }
         ensures { Opens self.now.cells.now name.now result }
     {
         let steps = self.steps_to(name, |cell| !matches!(cell, Cell::Taken(_)))?;
@@ -89,7 +86,6 @@ impl Parts<'_> {
 
     // The cell, on the way of the search for a name, that a place is in.
     pub(crate) fn cell_of(&self, name: &[u8], place: usize) -> Option<usize>
-        requires { length self.now.cells.now ≡ 2048 }
         ensures { MatchOption result ((j : ℕ) → j < 2048 → cell self.now.cells.now name.now j ≢ Placed place) (λ at. (at < 2048) × (slice_index_or self.now.cells.now at Unused ≡ Placed place)) }
     {
         let steps = self.steps_to(name, |cell| cell.place() == Some(place))?;

@@ -4,7 +4,7 @@ ghost use Rattle.store.specs.Beginning.{Allowed, Unbegun};
 ghost use Rattle.store.specs.Rows.{contents};
 
 use super::Table;
-use crate::lent::clear_rows;
+use crate::lent::{check_places, clear_rows};
 use crate::refusals::StoreFault;
 use crate::row::Row;
 
@@ -13,11 +13,8 @@ impl<'a> Table<'a> {
     pub fn new(places: usize, rows: &'a mut [Row]) -> Result<Table<'a>, (StoreFault, &'a mut [Row])>
         ensures { MatchResult result (λ t. Allowed places × (contents t.rows.now ≡ replicate places Nothing)) (λ e. Unbegun e.0 places (length rows.old) × (e.1.now ≡ rows.old)) }
     {
-        if places < 1 || places > 1024 {
-            return Err((StoreFault::Places, rows));
-        }
-        if rows.len() != places {
-            return Err((StoreFault::Length, rows));
+        if let Err(fault) = check_places(places, rows.len()) {
+            return Err((fault, rows));
         }
         clear_rows(rows);
         Ok(Table { rows })

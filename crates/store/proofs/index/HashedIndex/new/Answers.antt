@@ -6,8 +6,8 @@ use Rattle.store.proofs.Memory.{none_at, empty_unique}
 use Rattle.store.proofs.Places.{get_or_replicated}
 use Rattle.store.proofs.index.HashedIndex.new.Goals as goal
 
-pub invariant_of-result : goal.invariant_of-result
-invariant_of-result c =
+pub invariant_of-result-2 : goal.invariant_of-result-2
+invariant_of-result-2 c =
     let rs = c.clear_rows.new.rows in
     let cells = c.clear_cells.new.cells in
     let none = none_at rs (length c.args.rows.now) c.clear_rows.ensures in
@@ -16,7 +16,6 @@ invariant_of-result c =
       some = omega arith;
       most = omega arith;
       unique = empty_unique rs none;
-      all = omega arith;
       points = empty_points (contents rs) cells none unused;
       once = empty_once (contents rs) cells none unused;
       reaches = empty_reaches (contents rs) cells none unused;

@@ -27,14 +27,13 @@ invariant_of-self c =
     let long' = memory.long c.put.new.self.rows.now in
     let same : length (contents c.put.new.self.rows.now) ≡ length rows = ap length rows_are ∙ length-set rows place (Some new) in
     let same' : length c.put.new.self.cells.now ≡ length cells = ap length cells_are ∙ length-set cells at (Taken place) in
-    let all = s.all in
+    let all = s.parts.all in
     let some = s.some in
     let most = s.most in
     record {
       some = omega arith;
       most = omega arith;
       unique = subst Unique (sym rows_are) (unique_put rows place new inside may.absent s.unique);
-      all = omega arith;
       points = moved Points rows_are cells_are (put_points rows cells place at new all free inside vacant s.points s.once s.reaches s.paired);
       once = subst Once (sym cells_are) (put_once rows cells place at new all free inside vacant s.points s.once s.reaches s.paired);
       reaches = moved Reaches rows_are cells_are (put_reaches rows cells place at new all free inside vacant s.points s.once s.reaches s.paired);
@@ -46,4 +45,4 @@ returns-in_err-at-clause-rows c =
     let s = c.args.self.now in
     let few : length (contents s.parts.rows.now) ≤ 1024 = let l = memory.long s.parts.rows.now in let most = s.most in omega arith in
     let full : Opens s.parts.cells.now c.args.new.name.now None = search rules in
-    absurd (some_open (contents s.parts.rows.now) s.parts.cells.now c.args.new.name.now s.all few s.paired full)
+    absurd (some_open (contents s.parts.rows.now) s.parts.cells.now c.args.new.name.now s.parts.all few s.paired full)

@@ -20,21 +20,20 @@ invariant_of-self c =
     let place = c.args.place in
     let at = c.in_ok-at.at in
     let inside = held.within in
-    let within : at < length cells = let short = found.0 in let all = s.all in omega arith in
+    let within : at < length cells = let short = found.0 in let all = s.parts.all in omega arith in
     let rows_are = c.release.ensures.rows in
     let cells_are = c.release.ensures.cells in
     let long = memory.long s.parts.rows.now in
     let long' = memory.long c.release.new.self.rows.now in
     let same : length (contents c.release.new.self.rows.now) ≡ length rows = ap length rows_are ∙ length-set rows place None in
     let same' : length c.release.new.self.cells.now ≡ length cells = ap length cells_are ∙ length-set cells at Freed in
-    let all = s.all in
+    let all = s.parts.all in
     let some = s.some in
     let most = s.most in
     record {
       some = omega arith;
       most = omega arith;
       unique = subst Unique (sym rows_are) (unique_freed rows place s.unique);
-      all = omega arith;
       points = moved Points rows_are cells_are (freed_points rows cells place at held.row held.here inside within found.1 s.points s.once s.reaches s.paired);
       once = subst Once (sym cells_are) (freed_once rows cells place at held.row held.here inside within found.1 s.points s.once s.reaches s.paired);
       reaches = moved Reaches rows_are cells_are (freed_reaches rows cells place at held.row held.here inside within found.1 s.points s.once s.reaches s.paired);
