@@ -1,8 +1,7 @@
 -- A queue's places.
-use Rattle.std.proofs.Common.{◌≡◌, ℕ, ◌+◌, ◌-◌, ◌<◌, ◌≤◌, List, [], ◌∷◌, ◌++◌, length, get_or, take, drop, set, vec_items, vec_len, sym, ap, ◌∙◌, subst, arith}
-use Rattle.std.proofs.ByRecursion.{All-more}
-use Rattle.std.proofs.lemmas.List.{length-take-le, get_or-map, get_or-take, take_all}
-use Rattle.std.specs.List.{remove}
+use Rattle.std.proofs.Common.{◌≡◌, ℕ, zero, suc, ◌+◌, ◌-◌, ◌<◌, ◌≤◌, List, [], ◌∷◌, ◌++◌, map, length, get_or, take, drop, set, Some, None, Option, MatchOption, vec_items, vec_len, sym, ap, ◌∙◌, subst, arith}
+use Rattle.std.proofs.lemmas.List.{length-map, length-take-le, get_or-map, get_or-take, take_all}
+use Rattle.std.specs.List.{remove, AllWithin, HoldsAt}
 use Rattle.channel.specs.Letters.{Letter, letter, room, Waits, NoneNew}
 use Rattle.channel.specs.Queues.{queued, NoneFor, FirstFor}
 use Rattle.channel.specs.Slots.{space, letter_in, letters, Measured}
@@ -27,19 +26,28 @@ at q place slot h read x =
     let shown = length-take-le q.count slots (omega arith) in
     get_or-map letter_in (take q.count slots) place slot x (omega arith) ∙ ap letter_in (get_or-take q.count slots place slot h) ∙ ap letter_in (sym read)
 
-pub first_here : (q : Queue) (house place : ℕ) (slot : Slot) → place < q.count → slot ≡ get_or (vec_items q.slots) place slot → slot.to ≡ house → NoneFor house (take place (queued q)) → FirstFor house (queued q) place
-first_here q house place slot h read is none =
-    let count = count_is q in
-    record { within = omega arith; before = none; is = λ x. ap (λ l. l.to) (at q place slot h read x) ∙ is }
+-- no slot of the first n is for a house
+none_in : (house : ℕ) (ws : List Slot) (n : ℕ) → AllWithin (λ x. x.to ≡ house → ⊥) ws 0 n → n ≤ length ws → NoneFor house (take n (map letter_in ws))
+none_in house ws zero h l = tt
+none_in house [] (suc n) h l = absurd (omega arith)
+none_in house (w ∷ ws) (suc n) h l = (h 0 w (omega arith) (omega arith), none_in house ws n (λ k d a b. h (suc k) d (omega arith) (omega arith)) (omega arith))
 
-pub none_more : (q : Queue) (house place : ℕ) (slot : Slot) → place < q.count → slot ≡ get_or (vec_items q.slots) place slot → (slot.to ≡ house → ⊥) → NoneFor house (take place (queued q)) → NoneFor house (take (place + 1) (queued q))
-none_more q house place slot h read other none =
-    let count = count_is q in
-    let any = letter_in slot in
-    All-more (λ x. x.to ≡ house → ⊥) (queued q) place any (omega arith) none (λ e. other (sym (ap (λ l. l.to) (at q place slot h read any)) ∙ e))
+-- what a slot of a list has that each value at its place has
+some_at : (P : Slot → Type 0) (ws : List Slot) (i : ℕ) → i < length ws → HoldsAt P ws i → (w : Slot) × P (get_or ws i w)
+some_at P [] i l h = absurd (omega arith)
+some_at P (w ∷ ws) i l h = (w, h w)
 
-pub none_all : (q : Queue) (house n : ℕ) → q.count ≤ n → NoneFor house (take n (queued q)) → NoneFor house (queued q)
-none_all q house n h none = let count = count_is q in subst (NoneFor house) (take_all n (queued q) (omega arith)) none
+-- the first of the slots that is for a house has the first letter for it
+pub first_in : (house : ℕ) (ws : List Slot) (r : Option ℕ)
+    → MatchOption r (AllWithin (λ x. x.to ≡ house → ⊥) ws 0 (length ws)) (λ i. (i < length ws) × HoldsAt (λ x. x.to ≡ house) ws i × AllWithin (λ x. x.to ≡ house → ⊥) ws 0 i)
+    → MatchOption r (NoneFor house (map letter_in ws)) (λ i. FirstFor house (map letter_in ws) i)
+first_in house ws None h =
+    let long = length-map ws letter_in in
+    subst (NoneFor house) (take_all (length ws) (map letter_in ws) (omega arith)) (none_in house ws (length ws) h (omega arith))
+first_in house ws (Some i) h =
+    let long = length-map ws letter_in in
+    let w = some_at (λ x. x.to ≡ house) ws i h.0 h.1 in
+    record { within = omega (arith, h.0); before = none_in house ws i h.2 (omega (arith, h.0)); is = λ x. ap (λ l. l.to) (get_or-map letter_in ws i w.0 x h.0) ∙ w.1 }
 
 -- a message that waits is no longer than the room
 pub short : (q : Queue) (place : ℕ) (slot : Slot) → place < q.count → slot ≡ get_or (vec_items q.slots) place slot → length (letter_in slot).octets ≤ room q.size.positions

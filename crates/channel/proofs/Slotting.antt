@@ -1,8 +1,8 @@
 -- Slots filled, and moved behind the others.
-use Rattle.std.proofs.Common.{◌≡◌, ℕ, suc, ◌+◌, ◌-◌, ◌<◌, ◌≤◌, eqb, List, [], ◌∷◌, ◌++◌, map, length, get_or, take, drop, set, replicate, Decides, sym, ap, ◌∙◌, arith, rules}
-use Rattle.std.specs.List.{remove}
-use Rattle.std.proofs.lemmas.List.{places, same_lists, append_assoc, take_at, take-take, take_all, map_more, length-map, length_push, length-set, length-append, length-take, length-drop, length-take-le, get_or-map, get_or-replicate, set-get_or, map-set, map_push, map-append, take-map, drop-map, take_more_set, take-replicate, drop-replicate, replicate-append-replicate, replicate_more}
-use Rattle.std.proofs.lemmas.Bool.Decides.{nat_tests}
+use Rattle.std.proofs.Common.{◌≡◌, ℕ, suc, ◌+◌, ◌-◌, ◌<◌, ◌≤◌, Bool, true, false, List, [], ◌∷◌, ◌++◌, map, length, get_or, take, drop, set, replicate, Decides, MatchBool, sym, refl, ap, ◌∙◌, arith, rules}
+use Rattle.std.specs.List.{remove, AllWithin, HoldsAt}
+use Rattle.std.proofs.lemmas.List.{places, same_lists, append_assoc, take_at, take-take, take_all, length-map, length_push, length-set, length-append, length-take, length-drop, length-take-le, get_or-map, get_or-replicate, set-get_or, map-set, map_push, map-append, take-map, drop-map, take_more_set, take-replicate, drop-replicate, replicate-append-replicate, replicate_more}
+use Rattle.std.proofs.lemmas.Bool.{false≢true}
 use Rattle.channel.specs.Letters.{room}
 use Rattle.channel.specs.Slots.{space, letter_in, letters, Measured}
 use Rattle.channel.specs.declared.slot.Slot.{Slot}
@@ -61,20 +61,23 @@ letters_moved count slots i slot h within =
     ap (map letter_in) (without slots i count slot h within) ∙ map-append letter_in (take i shown) (drop (i + 1) shown)
     ∙ ap (λ xs. xs ++ map letter_in (drop (i + 1) shown)) (sym (take-map letter_in i shown)) ∙ ap (λ xs. take i (map letter_in shown) ++ xs) (sym (drop-map letter_in (i + 1) shown))
 
--- one more slot of a size
-pub spaces_more : (r : ℕ) (slots : List Slot) (i : ℕ) (slot : Slot) → i < length slots → slot ≡ get_or slots i slot → space slot ≡ r → map space (take i slots) ≡ replicate i r → map space (take (i + 1) slots) ≡ replicate (i + 1) r
-spaces_more r slots i slot h read is same =
-    map_more space slots i slot h ∙ ap (λ xs. xs ++ (space (get_or slots i slot) ∷ [])) same ∙ ap (λ x. replicate i r ++ (x ∷ [])) (ap space (sym read) ∙ is) ∙ replicate_more i r
+-- slots that are all of a size
+spaces : (r : ℕ) (slots : List Slot) → AllWithin (λ x. space x ≡ r) slots 0 (length slots) → map space slots ≡ replicate (length slots) r
+spaces r [] h = refl
+spaces r (slot ∷ slots) h =
+    (λ i. h 0 slot (omega arith) (omega arith) i ∷ map space slots) ∙ ap (λ xs. r ∷ xs) (spaces r slots (λ k d a b. h (suc k) d (omega arith) (omega arith)))
 
--- memory with a slot of another size, and memory with no such slot
-pub other_space : (m : ℕ) (slots : List Slot) (i : ℕ) (slot : Slot) → i < length slots → slot ≡ get_or slots i slot → (space slot ≡ room m → ⊥) → Measured m slots → ⊥
-other_space m slots i slot h read other e = other (ap space read ∙ measured_at m slots i slot e h)
+-- a slot of another size
+other_space : (m : ℕ) (slots : List Slot) (i : ℕ) → i < length slots → HoldsAt (λ x. space x ≡ room m → ⊥) slots i → Measured m slots → ⊥
+other_space m [] i h other e = absurd (omega arith)
+other_space m (slot ∷ slots) i h other e = other slot (measured_at m (slot ∷ slots) i slot e h)
 
-pub all_measured : (m : ℕ) (slots : List Slot) (n : ℕ) → n ≡ length slots → map space (take n slots) ≡ replicate n (room m) → Decides (eqb (length slots) 32) (Measured m slots)
-all_measured m slots n e same =
-    let r = room m in
-    let whole : map space slots ≡ replicate (length slots) r = ap (map space) (sym (take_all n slots (omega arith))) ∙ same ∙ ap (λ k. replicate k r) e in
-    (λ t. (grind (arith, nat_tests), whole), λ is. let long = is.0 in grind (arith, nat_tests))
+-- 32 slots are measured where all are of the size
+pub all_measured : (m : ℕ) (slots : List Slot) (r : Bool) → length slots ≡ 32
+    → MatchBool r (AllWithin (λ x. space x ≡ room m) slots 0 (length slots)) ((k : ℕ) × (k < length slots) × HoldsAt (λ x. space x ≡ room m → ⊥) slots k)
+    → Decides r (Measured m slots)
+all_measured m slots true long h = (λ t. (long, spaces (room m) slots h), λ e. refl)
+all_measured m slots false long h = (λ t. absurd (false≢true t), λ e. absurd (other_space m slots h.0 h.1 h.2 e))
 
 -- a slot put behind slots of its size
 pub spaces_push : (r : ℕ) (slots after : List Slot) (slot : Slot) → map space slots ≡ replicate (length slots) r → space slot ≡ r → after ≡ slots ++ (slot ∷ []) → map space after ≡ replicate (length after) r

@@ -15,7 +15,7 @@ pub fn queue_memory(heap: Global, size: FilterSize) -> Result<Vec<Slot>, AllocEr
     ensures { IfOk result (λ slots. Measured size.positions slots.items) }
 {
     let mut slots = Vec::with_capacity(heap, SLOTS)?;
-    while slots.len() < SLOTS {
+    for _ in 0..SLOTS {
         slots.push(Slot::new(heap, room(size))?)?;
     }
     Ok(slots)

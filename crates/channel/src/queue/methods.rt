@@ -34,12 +34,8 @@ impl Queue {
     pub(super) fn first_for(&self, house: u32) -> Option<usize>
         ensures { MatchOption result (NoneFor house (queued self.now)) (λ place. FirstFor house (queued self.now) place) }
     {
-        for place in 0..self.count {
-            if self.slots[place].house() == house {
-                return Some(place);
-            }
-        }
-        None
+        let waiting = &self.slots[..self.count];
+        waiting.iter().position(|slot| slot.house() == house)
     }
 
     // Takes the letter at a place out into a buffer, and answers its length.
@@ -59,10 +55,5 @@ impl Queue {
 fn are_measured(size: FilterSize, slots: &[Slot]) -> bool
     ensures { Decides result (Measured size.positions slots.now) }
 {
-    for slot in slots {
-        if slot.space() != room(size) {
-            return false;
-        }
-    }
-    slots.len() == SLOTS
+    slots.len() == SLOTS && slots.iter().all(|slot| slot.space() == room(size))
 }
