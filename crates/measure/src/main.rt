@@ -8,7 +8,7 @@ use anyhow::anyhow;
 use heaps::{drain, rerank_all};
 use std::env;
 use std::time::Instant;
-use store::{CELLS, Cell, HashedIndex, Row, Table};
+use store::{CELLS, Cell, HashedIndex, Row, Store, Table};
 use stores::{fill, find_all};
 
 // The places of the stores and of the heap.
@@ -22,15 +22,25 @@ fn report(rt: &HostRuntime, what: &str, sum: u64, start: Instant) -> anyhow::Res
     Ok(())
 }
 
+// Fills a store, and times its finds.
+fn time_finds<S: Store>(
+    rt: &HostRuntime,
+    what: &str,
+    store: &mut S,
+    rounds: u32,
+) -> anyhow::Result<()> {
+    fill(store);
+    let start = Instant::now(rt)?;
+    let sum = find_all(store, rounds);
+    report(rt, what, sum, start)
+}
+
 fn time_table(rt: &HostRuntime, rounds: u32) -> anyhow::Result<()> {
     let mut rows = vec![in rt.alloc(); Row::free(); PLACES]?;
     let Ok(mut table) = Table::new(PLACES, rows.as_mut_slice()) else {
         return Err(anyhow!("the table was refused"));
     };
-    fill(&mut table);
-    let start = Instant::now(rt)?;
-    let sum = find_all(&table, rounds);
-    report(rt, "table find", sum, start)
+    time_finds(rt, "table find", &mut table, rounds)
 }
 
 fn time_index(rt: &HostRuntime, rounds: u32) -> anyhow::Result<()> {
@@ -39,10 +49,7 @@ fn time_index(rt: &HostRuntime, rounds: u32) -> anyhow::Result<()> {
     let Ok(mut index) = HashedIndex::new(PLACES, rows.as_mut_slice(), cells.as_mut_slice()) else {
         return Err(anyhow!("the index was refused"));
     };
-    fill(&mut index);
-    let start = Instant::now(rt)?;
-    let sum = find_all(&index, rounds);
-    report(rt, "index find", sum, start)
+    time_finds(rt, "index find", &mut index, rounds)
 }
 
 fn time_heap(rt: &HostRuntime, rounds: u32) -> anyhow::Result<()> {

@@ -1,6 +1,6 @@
 // Stores filled and searched.
 use crate::PLACES;
-use store::Store;
+use store::{Record, Store};
 
 // The name of a number: eight octets, none of them zero.
 fn name_of(number: usize) -> [u8; 8] {
@@ -13,7 +13,11 @@ fn name_of(number: usize) -> [u8; 8] {
 // A record for each place.
 pub(crate) fn fill<S: Store>(store: &mut S) {
     for number in 0..PLACES {
-        let _ = store.add(&name_of(number), 1, 1);
+        let _ = store.add(Record {
+            name: &name_of(number),
+            size: 1,
+            cost: 1,
+        });
     }
 }
 

@@ -1,5 +1,5 @@
 // A small cache: a store, a policy and a heap of ranks.
-use crate::plan::{Plan, Record};
+use crate::plan::{Line, Plan};
 use crate::probing::Probing;
 use anyhow::anyhow;
 use digest::Md5;
@@ -9,7 +9,6 @@ use filter::{CountingFilter, FilterSize, Receipt, Summary};
 use hexadecimal::hex;
 use std::alloc::Global;
 use std::str::from_utf8;
-use store::{Row, good_name, good_worth};
 
 // The positions of the filter.
 const POSITIONS: u32 = 256;
@@ -58,16 +57,17 @@ impl<P: Policy + Drop> Cache<P> {
         &mut self,
         rt: &HostRuntime,
         store: &mut S,
-        record: &Record<'_>,
+        line: &Line<'_>,
     ) -> anyhow::Result<()> {
-        let name = record.name;
-        if !good_name(name.as_bytes()) || !good_worth(record.size, record.cost) {
+        let name = line.name;
+        let record = line.record();
+        if !record.is_good() {
             println!(rt; "bad {name}")?;
             return Ok(());
         }
         self.stamp = self.stamp.saturating_add(1);
         let rank = self.policy.rank(self.stamp, record.size, record.cost);
-        if let Some(place) = store.find(name.as_bytes()) {
+        if let Some(place) = store.find(record.name) {
             let _ = self.heap.rerank(self.entries.as_mut_slice(), place, rank);
             println!(rt; "used {name} at {place}")?;
             return Ok(());
@@ -77,7 +77,7 @@ impl<P: Policy + Drop> Cache<P> {
             return Ok(());
         }
         self.make_room(rt, store, record.size)?;
-        self.enter(rt, store, record)
+        self.enter(rt, store, line)
     }
 
     // Evicts until a place is free and the size fits.
@@ -112,8 +112,10 @@ impl<P: Policy + Drop> Cache<P> {
         store: &mut S,
         place: usize,
     ) -> anyhow::Result<()> {
-        let mut row = Row::free();
-        if store.read(place, &mut row).is_ok() && store.remove(place).is_ok() {
+        let Some(row) = store.row(place) else {
+            return Ok(());
+        };
+        if store.remove(place).is_ok() {
             self.used = self.used.saturating_sub(row.size() as u64);
             self.filter.lower(&Receipt::of(&Md5, self.size, row.name()));
             let name = from_utf8(row.name())?;
@@ -127,10 +129,11 @@ impl<P: Policy + Drop> Cache<P> {
         &mut self,
         rt: &HostRuntime,
         store: &mut S,
-        record: &Record<'_>,
+        line: &Line<'_>,
     ) -> anyhow::Result<()> {
-        let name = record.name;
-        match store.add(name.as_bytes(), record.size, record.cost) {
+        let name = line.name;
+        let record = line.record();
+        match store.add(record) {
             Ok(place) => {
                 let rank = self.policy.rank(self.stamp, record.size, record.cost);
                 let _ = self
@@ -138,8 +141,8 @@ impl<P: Policy + Drop> Cache<P> {
                     .insert(self.entries.as_mut_slice(), Entry { rank, place });
                 self.used = self.used.saturating_add(record.size as u64);
                 self.filter
-                    .raise(&Receipt::of(&Md5, self.size, name.as_bytes()));
-                match store.probes(name.as_bytes()) {
+                    .raise(&Receipt::of(&Md5, self.size, record.name));
+                match store.probes(record.name) {
                     Some(cells) => println!(rt;
                         "admitted {name} at {place}, found after {cells} cells"
                     )?,
@@ -157,9 +160,8 @@ impl<P: Policy + Drop> Cache<P> {
     // Prints what is held, and the filter's record.
     pub(crate) fn show<S: Probing>(&self, rt: &HostRuntime, store: &S) -> anyhow::Result<()> {
         let heap = rt.alloc();
-        let mut row = Row::free();
         for place in 0..store.len() {
-            if store.read(place, &mut row).is_ok() {
+            if let Some(row) = store.row(place) {
                 let name = from_utf8(row.name())?;
                 let size = row.size();
                 let cost = row.cost();

@@ -9,10 +9,10 @@ use anyhow::anyhow;
 use cache::Cache;
 use eviction::{GreedyDualSize, Lru, Policy};
 use fault::Refusal;
-use plan::{Plan, PolicyChoice, Record, StoreChoice};
+use plan::{Line, Plan, PolicyChoice, StoreChoice};
 use probing::Probing;
 use std::io::Read;
-use store::{CELLS, Cell, HashedIndex, Row, Store, Table};
+use store::{CELLS, Cell, HashedIndex, Row, StoreFault, Table};
 
 // Admits each record, and prints what became of it and, at the end, of the cache.
 fn serve<P: Policy + Drop, S: Probing>(
@@ -25,34 +25,23 @@ fn serve<P: Policy + Drop, S: Probing>(
     let heap = rt.alloc();
     let mut cache = Cache::new(heap, plan, policy)?;
     for line in text.lines().skip(1) {
-        match Record::read(line) {
-            Some(record) => cache.admit(rt, store, &record)?,
+        match Line::read(line) {
+            Some(line) => cache.admit(rt, store, &line)?,
             None => println!(rt; "unread {line}")?,
         }
     }
     cache.show(rt, store)
 }
 
-// The cache over a plain table.
-fn over_table<P: Policy + Drop>(
-    rt: &HostRuntime,
-    plan: &Plan,
-    policy: P,
-    text: &str,
-) -> anyhow::Result<()> {
-    let mut rows = vec![in rt.alloc(); Row::free(); plan.places]?;
-    match Table::new(plan.places, rows.as_mut_slice()) {
-        Ok(mut table) => serve(rt, plan, policy, &mut table, text),
-        Err((refusal, _)) => {
-            let fault = refusal.fault();
-            println!(rt; "refused {fault}")?;
-            Ok(())
-        }
-    }
+// Prints why a store did not begin.
+fn refused(rt: &HostRuntime, refusal: StoreFault) -> anyhow::Result<()> {
+    let fault = refusal.fault();
+    println!(rt; "refused {fault}")?;
+    Ok(())
 }
 
-// The cache over a hashed index.
-fn over_index<P: Policy + Drop>(
+// The cache over the store that the plan asks for.
+fn with_policy<P: Policy + Drop>(
     rt: &HostRuntime,
     plan: &Plan,
     policy: P,
@@ -60,25 +49,17 @@ fn over_index<P: Policy + Drop>(
 ) -> anyhow::Result<()> {
     let mut rows = vec![in rt.alloc(); Row::free(); plan.places]?;
     let mut cells = vec![in rt.alloc(); Cell::Never; CELLS]?;
-    match HashedIndex::new(plan.places, rows.as_mut_slice(), cells.as_mut_slice()) {
-        Ok(mut index) => serve(rt, plan, policy, &mut index, text),
-        Err((refusal, _, _)) => {
-            let fault = refusal.fault();
-            println!(rt; "refused {fault}")?;
-            Ok(())
-        }
-    }
-}
-
-fn with_policy<P: Policy + Drop>(
-    rt: &HostRuntime,
-    plan: &Plan,
-    policy: P,
-    text: &str,
-) -> anyhow::Result<()> {
     match plan.store {
-        StoreChoice::Table => over_table(rt, plan, policy, text),
-        StoreChoice::Index => over_index(rt, plan, policy, text),
+        StoreChoice::Table => match Table::new(plan.places, rows.as_mut_slice()) {
+            Ok(mut table) => serve(rt, plan, policy, &mut table, text),
+            Err((refusal, _)) => refused(rt, refusal),
+        },
+        StoreChoice::Index => {
+            match HashedIndex::new(plan.places, rows.as_mut_slice(), cells.as_mut_slice()) {
+                Ok(mut index) => serve(rt, plan, policy, &mut index, text),
+                Err((refusal, _, _)) => refused(rt, refusal),
+            }
+        }
     }
 }
 

@@ -1,21 +1,50 @@
 // What the tour is asked to do.
+use std::str::FromStr;
+
+// A word or a line that says nothing of what is wanted.
+#[derive(Clone, Copy, PartialEq, Eq, Debug)]
+pub struct Unread;
 
 // Which record leaves first.
-#[derive(Clone, Copy)]
+#[derive(Clone, Copy, PartialEq, Eq, Debug)]
 pub enum PolicyChoice {
     Lru,
     GreedyDualSize,
 }
 
+impl FromStr for PolicyChoice {
+    type Err = Unread;
+
+    fn from_str(word: &str) -> Result<PolicyChoice, Unread> {
+        match word {
+            "lru" => Ok(PolicyChoice::Lru),
+            "greedy-dual-size" => Ok(PolicyChoice::GreedyDualSize),
+            _ => Err(Unread),
+        }
+    }
+}
+
 // How rows are found.
-#[derive(Clone, Copy)]
+#[derive(Clone, Copy, PartialEq, Eq, Debug)]
 pub enum StoreChoice {
     Table,
     Index,
 }
 
+impl FromStr for StoreChoice {
+    type Err = Unread;
+
+    fn from_str(word: &str) -> Result<StoreChoice, Unread> {
+        match word {
+            "table" => Ok(StoreChoice::Table),
+            "index" => Ok(StoreChoice::Index),
+            _ => Err(Unread),
+        }
+    }
+}
+
 // The first line: policy, store, places and capacity.
-#[derive(Clone, Copy)]
+#[derive(Clone, Copy, PartialEq, Eq, Debug)]
 pub struct Plan {
     pub policy: PolicyChoice,
     pub store: StoreChoice,
@@ -26,43 +55,39 @@ pub struct Plan {
 impl Plan {
     // Reads the first line of a text.
     pub(crate) fn read(text: &str) -> Option<Plan> {
-        let line = text.lines().next()?;
-        let mut words = line.split(' ');
-        let policy = match words.next()? {
-            "lru" => PolicyChoice::Lru,
-            "greedy-dual-size" => PolicyChoice::GreedyDualSize,
-            _ => return None,
-        };
-        let store = match words.next()? {
-            "table" => StoreChoice::Table,
-            "index" => StoreChoice::Index,
-            _ => return None,
-        };
-        let places = words.next()?.parse::<usize>().ok()?;
-        let capacity = words.next()?.parse::<u32>().ok()?;
+        let mut words = text.lines().next()?.split(' ');
         Some(Plan {
-            policy,
-            store,
-            places,
-            capacity,
+            policy: words.next()?.parse::<PolicyChoice>().ok()?,
+            store: words.next()?.parse::<StoreChoice>().ok()?,
+            places: words.next()?.parse::<usize>().ok()?,
+            capacity: words.next()?.parse::<u32>().ok()?,
         })
     }
 }
 
 // A line: size, cost and name.
-#[derive(Clone, Copy)]
-pub struct Record<'t> {
+#[derive(Clone, Copy, PartialEq, Eq, Debug)]
+pub struct Line<'t> {
     pub name: &'t str,
     pub size: u32,
     pub cost: u16,
 }
 
-impl<'t> Record<'t> {
-    pub(crate) fn read(line: &'t str) -> Option<Record<'t>> {
+impl<'t> Line<'t> {
+    pub(crate) fn read(line: &'t str) -> Option<Line<'t>> {
         let mut words = line.splitn(3, ' ');
         let size = words.next()?.parse::<u32>().ok()?;
         let cost = words.next()?.parse::<u16>().ok()?;
         let name = words.next()?;
-        Some(Record { name, size, cost })
+        Some(Line { name, size, cost })
+    }
+
+    // The record that the line names.
+    pub(crate) fn record(&self) -> store::Record<'t> {
+        store::Record {
+            name: self.name.as_bytes(),
+            size: self.size,
+            cost: self.cost,
+        }
     }
 }

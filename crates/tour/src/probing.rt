@@ -3,14 +3,12 @@ use store::{HashedIndex, Store, Table};
 
 pub trait Probing: Store {
     // How many cells the search for a name looks at, where the store has cells.
-    fn probes(&self, name: &[u8]) -> Option<usize>;
-}
-
-impl Probing for Table<'_> {
-    fn probes(&self, name: &[u8]) -> Option<usize> {
+    fn probes(&self, _name: &[u8]) -> Option<usize> {
         None
     }
 }
+
+impl Probing for Table<'_> {}
 
 impl Probing for HashedIndex<'_> {
     fn probes(&self, name: &[u8]) -> Option<usize> {
