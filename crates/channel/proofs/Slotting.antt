@@ -1,7 +1,7 @@
 -- Slots filled, and moved behind the others.
 use Rattle.std.proofs.Common.{◌≡◌, ℕ, suc, ◌+◌, ◌-◌, ◌<◌, ◌≤◌, Bool, true, false, List, [], ◌∷◌, ◌++◌, map, length, get_or, take, drop, set, replicate, Decides, MatchBool, sym, refl, ap, ◌∙◌, arith, rules}
 use Rattle.std.specs.List.{remove, AllWithin, HoldsAt}
-use Rattle.std.proofs.lemmas.List.{places, same_lists, append_assoc, take_at, take-take, take_all, length-map, length_push, length-set, length-append, length-take, length-drop, length-take-le, get_or-map, get_or-replicate, set-get_or, map-set, map_push, map-append, take-map, drop-map, take_more_set, take-replicate, drop-replicate, replicate-append-replicate, replicate_more}
+use Rattle.std.proofs.lemmas.List.{places, same_lists, append_assoc, take_at, take-take, length-map, length_push, length-set, length-append, length-take, length-drop, length-take-le, get_or-map, get_or-replicate, set-get_or, map-set, map_push, map-append, take-map, drop-map, take_more_set, take-replicate, drop-replicate, replicate-append-replicate, replicate_more}
 use Rattle.std.proofs.lemmas.Bool.{false≢true}
 use Rattle.channel.specs.Letters.{room}
 use Rattle.channel.specs.Slots.{space, letter_in, letters, Measured}

@@ -1,11 +1,11 @@
 -- Rows in memory, by what they stand for.
-use Rattle.std.proofs.Common.{◌≡◌, ℕ, zero, suc, ◌+◌, ◌<◌, ◌≤◌, true, false, List, ◌∷◌, length, get_or, set, replicate, is_some, Some, None, Option, MatchOption, sym, refl, ap, ◌∙◌, subst, arith, below_more}
-use Rattle.std.proofs.lemmas.List.{length-map, get_or-map, map-set, get_or_past, ext_get_or, get_or-replicate, length-replicate}
+use Rattle.std.proofs.Common.{◌≡◌, ℕ, zero, suc, ◌<◌, ◌≤◌, true, false, List, ◌∷◌, length, get_or, set, replicate, is_some, Some, None, Option, MatchOption, sym, refl, ap, ◌∙◌, subst, arith}
+use Rattle.std.proofs.lemmas.List.{length-map, get_or-map, map-set, get_or_past}
 use Rattle.std.specs.List.{AllWithin, HoldsAt}
 use Rattle.store.specs.declared.row.Row.{Row}
 use Rattle.store.specs.Contents.{Unique, Held, Free, Bears, Named, Absent}
 use Rattle.store.specs.Rows.{content, contents}
-use Rattle.store.proofs.Places.{set_here, set_there, unique_none, none_some, some_is, none_is, named_at, bears_at, within, get_or_replicated}
+use Rattle.store.proofs.Places.{unique_none, none_some, some_is, none_is, named_at, bears_at, within, get_or_replicated}
 use Rattle.std.proofs.lemmas.Bool.{false≢true}
 
 pub long : (rs : List Row) → length (contents rs) ≡ length rs

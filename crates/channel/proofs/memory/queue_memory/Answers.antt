@@ -1,4 +1,4 @@
-use Rattle.std.proofs.Common.{vec_items, ◌∙◌, arith, rules}
+use Rattle.std.proofs.Common.{vec_items, ◌∙◌, rules}
 use Rattle.channel.specs.Letters.{room}
 use Rattle.channel.proofs.Slotting.{spaces_push}
 use Rattle.channel.proofs.memory.queue_memory.Goals as goal

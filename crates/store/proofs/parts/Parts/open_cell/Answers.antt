@@ -1,4 +1,4 @@
-use Rattle.std.proofs.Common.{◌≡◌, ℕ, ◌<◌, true, sym, subst, rules}
+use Rattle.std.proofs.Common.{sym, subst, rules}
 use borrow.Author.Tests.{tests}
 use Rattle.store.specs.Indexed.{Opens}
 use Rattle.store.proofs.Searches.{opened, never_opened}

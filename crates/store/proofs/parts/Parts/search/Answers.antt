@@ -1,8 +1,7 @@
-use Rattle.std.proofs.Common.{◌+◌, ◌%◌, get_or, sym, ap, ◌∙◌, subst, rules}
+use Rattle.std.proofs.Common.{◌+◌, subst, rules}
 use borrow.Author.Tests.{tests}
-use Rattle.store.specs.declared.cell.Cell.TheVariants.{Never}
 use Rattle.store.specs.Rows.{contents}
-use Rattle.store.specs.Search.{place_in, Search}
+use Rattle.store.specs.Search.{Search}
 use Rattle.store.proofs.Searches.{stopped, never_stopped}
 use Rattle.store.proofs.parts.Parts.search.Goals as goal
 
