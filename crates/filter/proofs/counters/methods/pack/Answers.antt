@@ -1,13 +1,10 @@
-use Rattle.std.proofs.Common.{◌≡◌, ◌+◌, ◌-◌, ◌*◌, ltb, length, drop, sym, ap, ◌∙◌, arith, rules}
-use Rattle.std.proofs.lemmas.List.{drop_all, length_push, length-reverse}
+use Rattle.std.proofs.Common.{◌≡◌, ◌-◌, ltb, length, drop, ap, ◌∙◌, arith, rules}
+use Rattle.std.proofs.lemmas.List.{length-reverse}
 use Rattle.std.proofs.lemmas.Iterator.Adapters.{YieldsList-from_rev_slice}
 use Rattle.std.proofs.lemmas.Iterator.Consumers.{YieldsList-turn, YieldsList-end}
 use Rattle.filter.specs.Summaries.{has_value}
-use Rattle.filter.proofs.Octets.{packed, packed_more, packed_room, packed_value, flag_is}
+use Rattle.filter.proofs.Octets.{packed, packed_room, packed_value, flag_is}
 use Rattle.filter.proofs.counters.methods.pack.Goals as goal
-
-pub loop-count-init : goal.loop-count-init
-loop-count-init c = record { can = search rules; finite = search rules; packed = sym (ap packed (drop_all 8 c.args.counters.now (omega arith))) }
 
 pub overflow_mul-octet : goal.overflow_mul-octet
 overflow_mul-octet c =
@@ -24,21 +21,6 @@ overflow_add-octet c =
     let flag = (flag_is (ltb 0 c.in-Some.count.now)).1 in
     let f = c.from.ensures in
     omega arith
-
-pub loop-count-preserved : goal.loop-count-preserved
-loop-count-preserved c =
-    let cs = c.args.counters.now in
-    let i = length c.loop-count.yielded in
-    let t = YieldsList-turn (YieldsList-from_rev_slice cs (search rules)) c.loop-count.yielded _ c.loop-count.yielded_by _ _ c.in-Some.count c.in-Some.is c.next.ensures.steps in
-    record {
-      can = search rules;
-      finite = search rules;
-      packed =
-          ap (λ n. 2 * n + c.from.result) c.loop-count.invariant.packed
-          ∙ ap (λ n. 2 * packed (drop (8 - i) cs) + n) (c.from.ensures ∙ (flag_is (ltb 0 c.in-Some.count.now)).0)
-          ∙ packed_more cs c.requires i c.in-Some.count.now t.0 t.1
-          ∙ ap (λ n. packed (drop (8 - n) cs)) (sym (length_push c.loop-count.yielded c.in-Some.count));
-    }
 
 pub returns : goal.returns
 returns c k below =
