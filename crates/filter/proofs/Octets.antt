@@ -4,7 +4,7 @@ use native.Mathlib.Nat.{div-div-eq-div-mul, pow-succ'}
 use lib.Bits.{bit_xor, xor_lt}
 use lib.Count.{ones}
 use mir.Val.{bool_byte}
-use Rattle.std.proofs.lemmas.List.{ext_get_or, at_drop_more, length-reverse, get_or-reverse, get_or_default}
+use Rattle.std.proofs.lemmas.List.{ext_get_or, length-reverse}
 use Rattle.filter.specs.Summaries.{has_value, bit, differs, tally}
 use Rattle.filter.proofs.Values.{tally_same, tally_add, ones_tally, same_values, xor_value}
 
@@ -83,28 +83,11 @@ pub flag_is : (b : Bool) → (bool_byte b ≡ cond b 1 0) × (bool_byte b < 2)
 flag_is true = (refl, omega arith)
 flag_is false = (refl, omega arith)
 
--- eight counters, of which i were taken from the last on, and one more: the count c, and the room that it needs
-module _ (cs : List ℕ) (eight : length cs ≡ 8) (i c : ℕ) (more : i < length (reverse cs)) (is : c ≡ get_or (reverse cs) i c) where
-  within : i < length cs
-  within = omega (arith, length-reverse cs)
-
-  here : c ≡ get_or cs (7 - i) 0
-  here =
-      let place : length cs - 1 - i ≡ 7 - i = omega arith in
-      is ∙ get_or-reverse cs i c within ∙ ap (λ n. get_or cs n c) place ∙ get_or_default cs (7 - i) c 0 (omega (arith, within))
-
-  pub packed_more : 2 * packed (drop (8 - i) cs) + cond (ltb 0 c) 1 0 ≡ packed (drop (8 - (i + 1)) cs)
-  packed_more =
-      let first : 8 - (i + 1) ≡ 7 - i = omega arith in
-      let next : 7 - i + 1 ≡ 8 - i = omega (arith, within) in
-      ap (λ n. 2 * packed (drop (8 - i) cs) + cond (ltb 0 n) 1 0) here
-      ∙ ap (λ n. 2 * packed (drop n cs) + cond (ltb 0 (get_or cs (7 - i) 0)) 1 0) (sym next)
-      ∙ sym (at_drop_more packed cs (7 - i) 0 (omega (arith, within)))
-      ∙ ap (λ n. packed (drop n cs)) (sym first)
-
-  pub packed_room : packed (drop (8 - i) cs) < 128
-  packed_room =
-      let below = packed_lt (drop (8 - i) cs) in
-      let long : length (drop (8 - i) cs) ≡ i = let e = length-drop (8 - i) cs in omega (arith, within) in
-      let most : 2 ^ i ≤ 2 ^ 7 = pow_mono {j = 7} (omega (arith, within)) in
-      omega (arith, ap (λ n. 2 ^ n) long)
+-- eight counters, of which i were taken from the last on, with one more to take: there is room for it
+pub packed_room : (cs : List ℕ) (i : ℕ) → length cs ≡ 8 → i < length (reverse cs) → packed (drop (8 - i) cs) < 128
+packed_room cs i eight more =
+    let within : i < length cs = omega (arith, length-reverse cs) in
+    let below = packed_lt (drop (8 - i) cs) in
+    let long : length (drop (8 - i) cs) ≡ i = let e = length-drop (8 - i) cs in omega (arith, within) in
+    let most : 2 ^ i ≤ 2 ^ 7 = pow_mono {j = 7} (omega (arith, within)) in
+    omega (arith, ap (λ n. 2 ^ n) long)

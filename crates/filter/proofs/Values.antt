@@ -1,6 +1,6 @@
 -- A number by its bits: how many are 1, those of an exclusive or, and that they determine it.
 use Rattle.std.proofs.Common.{◌≡◌, ℕ, zero, suc, ◌+◌, ◌/◌, ◌%◌, ◌^◌, ◌<◌, ◌≤◌, Bool, true, false, cond, not, eqb, sym, refl, ap, ◌∙◌, add-zero, add_assoc, add-suc, div-one, arith}
-use native.Mathlib.Nat.{zero-div, div-div-eq-div-mul, pow-succ'}
+use native.Mathlib.Nat.{div-div-eq-div-mul, pow-succ'}
 use lib.Bits.{bit_xor, xor_shr, xor_mod}
 use lib.Count.{ones, ones_step}
 use Rattle.std.proofs.lemmas.Bool.Decides.{nat_tests}
@@ -36,9 +36,6 @@ has_value_zero x = ap (λ n. eqb (n % 2) 1) (div-one x)
 
 has_value_suc : (x k : ℕ) → has_value x (suc k) ≡ has_value (x / 2) k
 has_value_suc x k = ap (λ n. eqb (n % 2) 1) (ap (λ d. x / d) (pow-succ' 2 k) ∙ sym (div-div-eq-div-mul x 2 (2 ^ k)))
-
-pub zero_has_none : (k : ℕ) → has_value 0 k ≡ false
-zero_has_none k = ap (λ n. eqb (n % 2) 1) (zero-div (2 ^ k))
 
 parity : (x : ℕ) → cond (eqb (x % 2) 1) 1 0 ≡ x % 2
 parity x = grind (arith, nat_tests)

@@ -217,20 +217,6 @@ module _ (rows : Contents) (cells : List Cell) (name : List ℕ) (all : length c
       let b = count_by-le-length is_some rows in
       omega arith
 
--- no row, and no cell with a place in it
-module _ (rows : Contents) (cells : List Cell) (none : (k : ℕ) → get_or rows k None ≡ None) (unused : (p : ℕ) → get_or cells p Never ≡ Never) where
-  pub empty_points : Points rows cells
-  empty_points p i e = absurd (never_taken (sym (unused p) ∙ e))
-
-  pub empty_once : Once cells
-  empty_once p q d = absurd (never_taken (sym (unused p) ∙ d.at_p))
-
-  pub empty_reaches : Reaches rows cells
-  empty_reaches i c e = absurd (none_some (sym (none i) ∙ e))
-
-  pub empty_paired : Paired rows cells
-  empty_paired = count_none taken cells Never (λ p h. ap taken (unused p)) ∙ sym (count_none is_some rows None (λ i h. ap is_some (none i)))
-
 -- what holds of rows and cells holds of equal ones
 pub moved : (P : Contents → List Cell → Type 0) {a b : Contents} {c d : List Cell} → a ≡ b → c ≡ d → P b d → P a c
 moved P {a} {b} {c} {d} e f h = subst (λ x. P x c) (sym e) (subst (P b) (sym f) h)

@@ -3,9 +3,9 @@ use Rattle.std.proofs.Common.{◌≡◌, ℕ, zero, suc, ◌<◌, ◌≤◌, tru
 use Rattle.std.proofs.lemmas.List.{length-map, get_or-map, map-set, get_or_past}
 use Rattle.std.specs.List.{AllWithin, HoldsAt}
 use Rattle.store.specs.declared.row.Row.{Row}
-use Rattle.store.specs.Contents.{Unique, Held, Free, Bears, Named, Absent}
+use Rattle.store.specs.Contents.{Free, Bears, Named, Absent}
 use Rattle.store.specs.Rows.{content, contents}
-use Rattle.store.proofs.Places.{unique_none, none_some, some_is, none_is, named_at, bears_at, within, get_or_replicated}
+use Rattle.store.proofs.Places.{none_is, named_at, bears_at, within}
 use Rattle.std.proofs.lemmas.Bool.{false≢true}
 
 pub long : (rs : List Row) → length (contents rs) ≡ length rs
@@ -20,13 +20,7 @@ past rs i h = get_or_past (contents rs) i None (let e = long rs in omega arith)
 pub written : (rs : List Row) (i : ℕ) (r : Row) → contents (set rs i r) ≡ set (contents rs) i (content r)
 written rs i r = map-set content rs i r
 
--- whether a row that was read is used says whether a record stands at its place
-pub is_held : (rs : List Row) (i : ℕ) (d : Row) → i < length rs → true ≡ is_some (content (get_or rs i d)) → Held (contents rs) i
-is_held rs i d h e =
-    let o = content (get_or rs i d) in
-    let s = some_is o (sym e) in
-    record { within = (let l = long rs in omega arith); row = s.0; here = at rs i d h ∙ s.1 }
-
+-- a row that was read and is not used stands at a free place
 pub is_free : (rs : List Row) (i : ℕ) (d : Row) → i < length rs → false ≡ is_some (content (get_or rs i d)) → get_or (contents rs) i None ≡ None
 is_free rs i d h e = at rs i d h ∙ none_is (content (get_or rs i d)) (sym e)
 
@@ -38,13 +32,6 @@ is_named rs i d name h b = named_at (contents rs) i name (subst (λ o. Bears o n
 pub repeated : (r : Row) (n : ℕ) → contents (replicate n r) ≡ replicate n (content r)
 repeated r zero = refl
 repeated r (suc n) = ap (λ l. content r ∷ l) (repeated r n)
-
--- rows that are all free
-pub none_at : (rs : List Row) (n : ℕ) → contents rs ≡ replicate n None → (k : ℕ) → get_or (contents rs) k None ≡ None
-none_at rs n e k = ap (λ l. get_or l k None) e ∙ get_or_replicated None n k
-
-pub empty_unique : (rs : List Row) → ((k : ℕ) → get_or (contents rs) k None ≡ None) → Unique (contents rs)
-empty_unique rs none = unique_none (contents rs) (λ k c e. none_some (sym (none k) ∙ e))
 
 -- a row that is free
 blank : Row

@@ -82,10 +82,6 @@ unique_put rows i x h absent u j k a =
           ]
     ]
 
--- no row at all
-pub unique_none : (rows : Contents) → ((k : ℕ) (c : Content) → get_or rows k None ≡ Some c → ⊥) → Unique rows
-unique_none rows none i j a = absurd (none i a.first a.at_i)
-
 -- where a record may be added: what was found of its name, and a free place
 pub place_cases : (rows : Contents) (c : Content) (found : Option ℕ) (held : Bool) (r : Option ℕ) → held ≡ is_some found
     → MatchOption found (Absent rows c.name) (λ p. Named rows p c.name)

@@ -9,14 +9,14 @@ use Rattle.filter.proofs.counters.methods.pack.Goals as goal
 pub overflow_mul-octet : goal.overflow_mul-octet
 overflow_mul-octet c =
     let t = YieldsList-turn (YieldsList-from_rev_slice c.args.counters.now (search rules)) c.loop-count.yielded _ c.loop-count.yielded_by _ _ c.in-Some.count c.in-Some.is c.next.ensures.steps in
-    let room = packed_room c.args.counters.now c.requires (length c.loop-count.yielded) c.in-Some.count.now t.0 t.1 in
+    let room = packed_room c.args.counters.now (length c.loop-count.yielded) c.requires t.0 in
     let e = c.loop-count.invariant.packed in
     omega arith
 
 pub overflow_add-octet : goal.overflow_add-octet
 overflow_add-octet c =
     let t = YieldsList-turn (YieldsList-from_rev_slice c.args.counters.now (search rules)) c.loop-count.yielded _ c.loop-count.yielded_by _ _ c.in-Some.count c.in-Some.is c.next.ensures.steps in
-    let room = packed_room c.args.counters.now c.requires (length c.loop-count.yielded) c.in-Some.count.now t.0 t.1 in
+    let room = packed_room c.args.counters.now (length c.loop-count.yielded) c.requires t.0 in
     let e = c.loop-count.invariant.packed in
     let flag = (flag_is (ltb 0 c.in-Some.count.now)).1 in
     let f = c.from.ensures in
