@@ -28,9 +28,15 @@ def functions():
     for name, text in TEXT.items():
         for found in head.finditer(text):
             indent = found.group(1)
-            end = text.find(f"\n{indent}}}", found.end())
-            stop = text.find(";\n", found.end())
-            body = text[found.start() : end if end >= 0 else stop]
+            end = found.end()
+            for line in text[found.end() :].splitlines(keepends=True):
+                end += len(line)
+                if line.rstrip().endswith(";"):
+                    break
+                if line.rstrip().endswith("{") and not re.match(r" *(requires|ensures)", line):
+                    end = text.find(f"\n{indent}}}", end)
+                    break
+            body = text[found.start() : end]
             parameters = re.findall(r"(\w+): (?!\{)", body[found.end() - found.start() :].split("{")[0].split("->")[0])
             clauses = re.findall(r"(?:requires|ensures)(?: \w+)? (\{.*\})$", body, re.M)
             code = re.sub(r"^ *(requires|ensures).*$", "", body, flags=re.M)

@@ -1,7 +1,7 @@
 -- Slots filled, and moved behind the others.
 use Rattle.std.proofs.Common.{◌≡◌, ℕ, suc, ◌+◌, ◌-◌, ◌<◌, ◌≤◌, Bool, true, false, List, [], ◌∷◌, ◌++◌, map, length, get_or, take, drop, set, replicate, Decides, MatchBool, sym, refl, ap, ◌∙◌, arith, rules}
 use Rattle.std.specs.List.{remove, AllWithin, HoldsAt}
-use Rattle.std.proofs.lemmas.List.{places, same_lists, append_assoc, take_at, take-take, length-map, length_push, length-set, length-append, length-take, length-drop, length-take-le, get_or-map, get_or-replicate, set-get_or, map-set, map_push, map-append, take-map, drop-map, take_more_set, take-replicate, drop-replicate, replicate-append-replicate, replicate_more}
+use Rattle.std.proofs.lemmas.List.{places, same_lists, append_assoc, take_at, take-take, length-map, length-set, length-append, length-take, length-drop, length-take-le, get_or-map, get_or-replicate, set-get_or, map-set, map_push, map-append, take-map, drop-map, take_more_set, take-replicate, drop-replicate, replicate-append-replicate, replicate_more}
 use Rattle.std.proofs.lemmas.Bool.{false≢true}
 use Rattle.channel.specs.Letters.{room}
 use Rattle.channel.specs.Slots.{space, letter_in, letters, Measured}
@@ -78,10 +78,3 @@ pub all_measured : (m : ℕ) (slots : List Slot) (r : Bool) → length slots ≡
     → Decides r (Measured m slots)
 all_measured m slots true long h = (λ t. (long, spaces (room m) slots h), λ e. refl)
 all_measured m slots false long h = (λ t. absurd (false≢true t), λ e. absurd (other_space m slots h.0 h.1 h.2 e))
-
--- a slot put behind slots of its size
-pub spaces_push : (r : ℕ) (slots after : List Slot) (slot : Slot) → map space slots ≡ replicate (length slots) r → space slot ≡ r → after ≡ slots ++ (slot ∷ []) → map space after ≡ replicate (length after) r
-spaces_push r slots after slot same is e =
-    let long : length slots + 1 ≡ length after = sym (length_push slots slot) ∙ ap length (sym e) in
-    ap (map space) e ∙ map_push space slots slot ∙ ap (λ xs. xs ++ (space slot ∷ [])) same ∙ ap (λ x. replicate (length slots) r ++ (x ∷ [])) is
-    ∙ replicate_more (length slots) r ∙ ap (λ n. replicate n r) long

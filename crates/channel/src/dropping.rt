@@ -17,7 +17,7 @@ pub struct Dropping<C> {
 }
 
 impl<C: Channel> Dropping<C> {
-    // A layer over a channel; no message is lost where n is 0.
+    // A layer over a channel; no message is lost where n is 0. Layers have a type each: what they make of the channel below differs.
     pub fn new(below: C, n: u8) -> Dropping<C>
         ensures { (result.below ≡ below) × (result.cycle ≡ start n) }
     {

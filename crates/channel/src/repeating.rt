@@ -16,7 +16,7 @@ pub struct Repeating<C> {
 }
 
 impl<C: Channel> Repeating<C> {
-    // A layer over a channel; no message is doubled where n is 0.
+    // A layer over a channel; no message is doubled where n is 0. Layers have a type each: what they make of the channel below differs.
     pub fn new(below: C, n: u8) -> Repeating<C>
         ensures { (result.below ≡ below) × (result.cycle ≡ start n) }
     {

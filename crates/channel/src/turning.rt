@@ -18,7 +18,7 @@ pub struct Turning<C> {
 }
 
 impl<C: Channel> Turning<C> {
-    // A layer over a channel; no message is sent back where n is 0.
+    // A layer over a channel; no message is sent back where n is 0. Layers have a type each: what they make of the channel below differs.
     pub fn new(below: C, n: u8) -> Turning<C>
         ensures { (result.below ≡ below) × (result.cycle ≡ start n) }
     {

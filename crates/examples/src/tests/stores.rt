@@ -77,15 +77,14 @@ fn index_of_two(rt: HostRuntime) -> Result<(), Fail> {
 }
 
 #[test]
-fn refused_beginnings(rt: HostRuntime) {
+fn refused_beginnings(rt: HostRuntime) -> Result<(), Fail> {
     let mut rows = [Row::free(); 2];
-    let none = match Table::new(0, &mut rows) {
-        Ok(_) => 0,
-        Err((refusal, _)) => refusal.fault().number,
+    let Err((none, rows)) = Table::new(0, &mut rows) else {
+        return Err(Fail::new("no places"));
     };
-    let other = match Table::new(3, &mut rows) {
-        Ok(_) => 0,
-        Err((refusal, _)) => refusal.fault().number,
+    let Err((other, _)) = Table::new(3, rows) else {
+        return Err(Fail::new("rows of another number"));
     };
-    assert_eq!(rt; (none, other), (1, 3));
+    assert_eq!(rt; (none.fault().number, other.fault().number), (1, 3));
+    Ok(())
 }

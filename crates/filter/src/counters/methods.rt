@@ -8,6 +8,7 @@ use crate::receipt::Receipt;
 use crate::size::FilterSize;
 use std::alloc::{AllocError, Global};
 
+// Each call says that the size remains: that is a fact of two moments, which no ghost field can state.
 impl CountingFilter {
     // A filter in which no counter is above 0.
     pub fn new(heap: Global, size: FilterSize) -> Result<CountingFilter, AllocError>

@@ -41,6 +41,7 @@ impl Parts<'_> {
         ensures { MatchOption result (NeverStops (F.post stop) self.now.cells.now name.now 2048) (λ steps. StopsAt (F.post stop) self.now.cells.now name.now steps) }
     {
         let start = start_cell(name);
+        // Counted by hand: the range's `find` proves too, and takes half as long again.
         for steps in 0..CELLS {
             if stop(self.cells[cell_after(start, steps)]) {
                 return Some(steps);

@@ -1,17 +1,8 @@
 use Rattle.std.proofs.Common.{◌<◌, vec_items, sym, refl, ap, ◌∙◌, subst, arith}
 use Rattle.channel.specs.Letters.{Waits}
 use Rattle.channel.specs.Queues.{queued}
-use Rattle.channel.proofs.Queueing.{many, count_is, at, short, moved, measured_after, left_waited}
+use Rattle.channel.proofs.Queueing.{count_is, at, short, moved, measured_after, left_waited}
 use Rattle.channel.proofs.queue.Queue.take_at.Goals as goal
-
-pub remove-slot-requires : goal.remove-slot-requires
-remove-slot-requires c =
-    let q = c.args.self.now in
-    let m = many q in
-    let count = count_is q in
-    let most = q.most in
-    let within = c.requires.0 in
-    omega arith
 
 pub copy_to-len-requires : goal.copy_to-len-requires
 copy_to-len-requires c =

@@ -1,26 +1,10 @@
-use Rattle.std.proofs.Common.{◌<◌, [], ◌∷◌, ◌++◌, vec_items, sym, refl, ap, ◌∙◌, subst, inl, arith}
+use Rattle.std.proofs.Common.{◌<◌, [], ◌∷◌, ◌++◌, vec_items, sym, refl, ap, ◌∙◌, subst, arith}
 use Rattle.channel.specs.Letters.{letter, Waits}
 use Rattle.channel.specs.Queues.{queued}
-use Rattle.channel.proofs.Queueing.{many, count_is, put, free_space}
+use Rattle.channel.proofs.Queueing.{count_is, put, free_space}
 use Rattle.channel.proofs.Slotting.{measured_set}
 use Rattle.channel.proofs.Waiting.{sent_last, all_fitting}
 use Rattle.channel.proofs.queue.impls.QueueChannel.send.Goals as goal
-
-pub returns-then-self-eq-SLOTS : goal.returns-then-self-eq-SLOTS
-returns-then-self-eq-SLOTS c =
-    record {
-      allowed = (c.in_ok-check_letter.ensures, count_is c.args.self.now ∙ c.if-self-eq-SLOTS.true);
-      exactly = refl;
-      nothing_else = (λ x w. inl w, refl);
-    }
-
-pub index_mut-requires : goal.index_mut-requires
-index_mut-requires c =
-    let q = c.args.self.now in
-    let m = many q in
-    let most = q.most in
-    let other = c.if-self-eq-SLOTS.false in
-    omega arith
 
 pub fill-requires : goal.fill-requires
 fill-requires c =
