@@ -20,16 +20,14 @@ const INITIAL: Registers = Registers {
 };
 
 // The registers after some blocks, from `r` on.
-fn process(blocks: &[[u8; 64]], table: &[u32], r: Registers) -> Registers
+fn process(blocks: &[[u8; 64]], table: &[u32], mut r: Registers) -> Registers
     requires { table.now ≡ sines }
     ensures { result ≡ fold (λ r x. block x r) r blocks.now }
 {
-    blocks.iter().fold(
-        r,
-        |r, octets|
-            requires { table.now ≡ sines }
-        { Block { octets, table }.compress(r) },
-    )
+    for octets in blocks {
+        r = Block { octets, table }.compress(r);
+    }
+    r
 }
 
 // How many octets follow the whole blocks of a message of `len` octets, once it is padded.

@@ -1,5 +1,5 @@
 // One block of MD5: 64 steps over sixteen words, in four rounds.
-ghost use Rattle.std.specs.Prelude.{◌≡◌, ◌<◌};
+ghost use Rattle.std.specs.Prelude.{◌≡◌, ◌<◌, ◌/◌};
 ghost use Rattle.digest.specs.Md5.{word, sines, aux_f, aux_g, aux_h, aux_i, aux, place, shift, turned, step, steps, block, output, big_words};
 
 // T[1] to T[64] of RFC 1321, section 3.4. Blocks read it through a slice: a constant in the code would be added last, one cycle later in each step.
@@ -24,37 +24,12 @@ pub struct Registers {
 }
 
 impl Registers {
-    // The auxiliary functions of the four rounds, of the registers b, c and d.
-    fn f(self) -> u32
-        ensures { result ≡ aux_f self.b self.c self.d }
-    {
-        (self.b & self.c) | (!self.b & self.d)
-    }
-
-    fn g(self) -> u32
-        ensures { result ≡ aux_g self.b self.c self.d }
-    {
-        (self.b & self.d) | (self.c & !self.d)
-    }
-
-    fn h(self) -> u32
-        ensures { result ≡ aux_h self.b self.c self.d }
-    {
-        self.b ^ self.c ^ self.d
-    }
-
-    fn i(self) -> u32
-        ensures { result ≡ aux_i self.b self.c self.d }
-    {
-        self.c ^ (self.b | !self.d)
-    }
-
     // a = b + ((a + f + X[k] + T[i]) <<< s), and the registers change places.
     fn turn(self, f: u32, x: u32, t: u32, s: u32) -> Registers
         requires { (0 < s) × (s < 32) }
         ensures { result ≡ turned self f x t s }
     {
-        let sum = self.a.wrapping_add(f).wrapping_add(x).wrapping_add(t);
+        let sum = self.a.wrapping_add(x).wrapping_add(t).wrapping_add(f);
         Registers {
             a: self.d,
             b: self.b.wrapping_add(sum.rotate_left(s)),
@@ -100,92 +75,136 @@ impl<'m, 't> Block<'m, 't> {
         r.turn(f, self.word(k), self.table[i], s)
     }
 
+    // A step by F.
+    fn ff(self, r: Registers, k: usize, s: u32, i: usize) -> Registers
+        requires number { i < 64 }
+        requires round { i / 16 ≡ 0 }
+        requires place { (k ≡ place i) × (k < 16) }
+        requires shift { (s ≡ shift i) × (0 < s) × (s < 32) }
+        ensures { result ≡ step self.entry.octets.now i r }
+    {
+        self.step(r, (r.b & r.c) | (!r.b & r.d), k, s, i)
+    }
+
+    // A step by G.
+    fn gg(self, r: Registers, k: usize, s: u32, i: usize) -> Registers
+        requires number { i < 64 }
+        requires round { i / 16 ≡ 1 }
+        requires place { (k ≡ place i) × (k < 16) }
+        requires shift { (s ≡ shift i) × (0 < s) × (s < 32) }
+        ensures { result ≡ step self.entry.octets.now i r }
+    {
+        self.step(r, (r.b & r.d) | (r.c & !r.d), k, s, i)
+    }
+
+    // A step by H.
+    fn hh(self, r: Registers, k: usize, s: u32, i: usize) -> Registers
+        requires number { i < 64 }
+        requires round { i / 16 ≡ 2 }
+        requires place { (k ≡ place i) × (k < 16) }
+        requires shift { (s ≡ shift i) × (0 < s) × (s < 32) }
+        ensures { result ≡ step self.entry.octets.now i r }
+    {
+        self.step(r, r.b ^ r.c ^ r.d, k, s, i)
+    }
+
+    // A step by I.
+    fn ii(self, r: Registers, k: usize, s: u32, i: usize) -> Registers
+        requires number { i < 64 }
+        requires round { i / 16 ≡ 3 }
+        requires place { (k ≡ place i) × (k < 16) }
+        requires shift { (s ≡ shift i) × (0 < s) × (s < 32) }
+        ensures { result ≡ step self.entry.octets.now i r }
+    {
+        self.step(r, r.c ^ (r.b | !r.d), k, s, i)
+    }
+
     // The first round, as the RFC lists it: X[k], the shift, and the number of the step.
     fn round1(self, r: Registers) -> Registers
         ensures { result ≡ steps self.entry.octets.now 0 16 r }
     {
-        let r = self.step(r, r.f(), 0, 7, 0);
-        let r = self.step(r, r.f(), 1, 12, 1);
-        let r = self.step(r, r.f(), 2, 17, 2);
-        let r = self.step(r, r.f(), 3, 22, 3);
-        let r = self.step(r, r.f(), 4, 7, 4);
-        let r = self.step(r, r.f(), 5, 12, 5);
-        let r = self.step(r, r.f(), 6, 17, 6);
-        let r = self.step(r, r.f(), 7, 22, 7);
-        let r = self.step(r, r.f(), 8, 7, 8);
-        let r = self.step(r, r.f(), 9, 12, 9);
-        let r = self.step(r, r.f(), 10, 17, 10);
-        let r = self.step(r, r.f(), 11, 22, 11);
-        let r = self.step(r, r.f(), 12, 7, 12);
-        let r = self.step(r, r.f(), 13, 12, 13);
-        let r = self.step(r, r.f(), 14, 17, 14);
-        self.step(r, r.f(), 15, 22, 15)
+        let r = self.ff(r, 0, 7, 0);
+        let r = self.ff(r, 1, 12, 1);
+        let r = self.ff(r, 2, 17, 2);
+        let r = self.ff(r, 3, 22, 3);
+        let r = self.ff(r, 4, 7, 4);
+        let r = self.ff(r, 5, 12, 5);
+        let r = self.ff(r, 6, 17, 6);
+        let r = self.ff(r, 7, 22, 7);
+        let r = self.ff(r, 8, 7, 8);
+        let r = self.ff(r, 9, 12, 9);
+        let r = self.ff(r, 10, 17, 10);
+        let r = self.ff(r, 11, 22, 11);
+        let r = self.ff(r, 12, 7, 12);
+        let r = self.ff(r, 13, 12, 13);
+        let r = self.ff(r, 14, 17, 14);
+        self.ff(r, 15, 22, 15)
     }
 
     // The second round, as the RFC lists it: X[k], the shift, and the number of the step.
     fn round2(self, r: Registers) -> Registers
         ensures { result ≡ steps self.entry.octets.now 16 16 r }
     {
-        let r = self.step(r, r.g(), 1, 5, 16);
-        let r = self.step(r, r.g(), 6, 9, 17);
-        let r = self.step(r, r.g(), 11, 14, 18);
-        let r = self.step(r, r.g(), 0, 20, 19);
-        let r = self.step(r, r.g(), 5, 5, 20);
-        let r = self.step(r, r.g(), 10, 9, 21);
-        let r = self.step(r, r.g(), 15, 14, 22);
-        let r = self.step(r, r.g(), 4, 20, 23);
-        let r = self.step(r, r.g(), 9, 5, 24);
-        let r = self.step(r, r.g(), 14, 9, 25);
-        let r = self.step(r, r.g(), 3, 14, 26);
-        let r = self.step(r, r.g(), 8, 20, 27);
-        let r = self.step(r, r.g(), 13, 5, 28);
-        let r = self.step(r, r.g(), 2, 9, 29);
-        let r = self.step(r, r.g(), 7, 14, 30);
-        self.step(r, r.g(), 12, 20, 31)
+        let r = self.gg(r, 1, 5, 16);
+        let r = self.gg(r, 6, 9, 17);
+        let r = self.gg(r, 11, 14, 18);
+        let r = self.gg(r, 0, 20, 19);
+        let r = self.gg(r, 5, 5, 20);
+        let r = self.gg(r, 10, 9, 21);
+        let r = self.gg(r, 15, 14, 22);
+        let r = self.gg(r, 4, 20, 23);
+        let r = self.gg(r, 9, 5, 24);
+        let r = self.gg(r, 14, 9, 25);
+        let r = self.gg(r, 3, 14, 26);
+        let r = self.gg(r, 8, 20, 27);
+        let r = self.gg(r, 13, 5, 28);
+        let r = self.gg(r, 2, 9, 29);
+        let r = self.gg(r, 7, 14, 30);
+        self.gg(r, 12, 20, 31)
     }
 
     // The third round, as the RFC lists it: X[k], the shift, and the number of the step.
     fn round3(self, r: Registers) -> Registers
         ensures { result ≡ steps self.entry.octets.now 32 16 r }
     {
-        let r = self.step(r, r.h(), 5, 4, 32);
-        let r = self.step(r, r.h(), 8, 11, 33);
-        let r = self.step(r, r.h(), 11, 16, 34);
-        let r = self.step(r, r.h(), 14, 23, 35);
-        let r = self.step(r, r.h(), 1, 4, 36);
-        let r = self.step(r, r.h(), 4, 11, 37);
-        let r = self.step(r, r.h(), 7, 16, 38);
-        let r = self.step(r, r.h(), 10, 23, 39);
-        let r = self.step(r, r.h(), 13, 4, 40);
-        let r = self.step(r, r.h(), 0, 11, 41);
-        let r = self.step(r, r.h(), 3, 16, 42);
-        let r = self.step(r, r.h(), 6, 23, 43);
-        let r = self.step(r, r.h(), 9, 4, 44);
-        let r = self.step(r, r.h(), 12, 11, 45);
-        let r = self.step(r, r.h(), 15, 16, 46);
-        self.step(r, r.h(), 2, 23, 47)
+        let r = self.hh(r, 5, 4, 32);
+        let r = self.hh(r, 8, 11, 33);
+        let r = self.hh(r, 11, 16, 34);
+        let r = self.hh(r, 14, 23, 35);
+        let r = self.hh(r, 1, 4, 36);
+        let r = self.hh(r, 4, 11, 37);
+        let r = self.hh(r, 7, 16, 38);
+        let r = self.hh(r, 10, 23, 39);
+        let r = self.hh(r, 13, 4, 40);
+        let r = self.hh(r, 0, 11, 41);
+        let r = self.hh(r, 3, 16, 42);
+        let r = self.hh(r, 6, 23, 43);
+        let r = self.hh(r, 9, 4, 44);
+        let r = self.hh(r, 12, 11, 45);
+        let r = self.hh(r, 15, 16, 46);
+        self.hh(r, 2, 23, 47)
     }
 
     // The fourth round, as the RFC lists it: X[k], the shift, and the number of the step.
     fn round4(self, r: Registers) -> Registers
         ensures { result ≡ steps self.entry.octets.now 48 16 r }
     {
-        let r = self.step(r, r.i(), 0, 6, 48);
-        let r = self.step(r, r.i(), 7, 10, 49);
-        let r = self.step(r, r.i(), 14, 15, 50);
-        let r = self.step(r, r.i(), 5, 21, 51);
-        let r = self.step(r, r.i(), 12, 6, 52);
-        let r = self.step(r, r.i(), 3, 10, 53);
-        let r = self.step(r, r.i(), 10, 15, 54);
-        let r = self.step(r, r.i(), 1, 21, 55);
-        let r = self.step(r, r.i(), 8, 6, 56);
-        let r = self.step(r, r.i(), 15, 10, 57);
-        let r = self.step(r, r.i(), 6, 15, 58);
-        let r = self.step(r, r.i(), 13, 21, 59);
-        let r = self.step(r, r.i(), 4, 6, 60);
-        let r = self.step(r, r.i(), 11, 10, 61);
-        let r = self.step(r, r.i(), 2, 15, 62);
-        self.step(r, r.i(), 9, 21, 63)
+        let r = self.ii(r, 0, 6, 48);
+        let r = self.ii(r, 7, 10, 49);
+        let r = self.ii(r, 14, 15, 50);
+        let r = self.ii(r, 5, 21, 51);
+        let r = self.ii(r, 12, 6, 52);
+        let r = self.ii(r, 3, 10, 53);
+        let r = self.ii(r, 10, 15, 54);
+        let r = self.ii(r, 1, 21, 55);
+        let r = self.ii(r, 8, 6, 56);
+        let r = self.ii(r, 15, 10, 57);
+        let r = self.ii(r, 6, 15, 58);
+        let r = self.ii(r, 13, 21, 59);
+        let r = self.ii(r, 4, 6, 60);
+        let r = self.ii(r, 11, 10, 61);
+        let r = self.ii(r, 2, 15, 62);
+        self.ii(r, 9, 21, 63)
     }
 
     // The registers after the block.
