@@ -1,12 +1,12 @@
 // MD5, after RFC 1321.
 ghost use Rattle.std.specs.Prelude.{◌≡◌, ◌+◌, ◌%◌, ◌++◌, fold, length, replicate, refl};
-ghost use Rattle.digest.specs.Md5.{zeros, appended, sines, block, md5_words};
+ghost use Rattle.digest.specs.Md5.{zeros, appended, block, md5_words};
 ghost use Rattle.digest.specs.Narrow.{md5_narrow};
 
 mod rounds;
 
 use crate::Digest;
-use rounds::{Block, Registers, SINES};
+use rounds::Registers;
 
 #[derive(Clone, Copy, PartialEq, Eq, Debug)]
 pub struct Md5;
@@ -20,14 +20,10 @@ const INITIAL: Registers = Registers {
 };
 
 // The registers after some blocks, from `r` on.
-fn process(blocks: &[[u8; 64]], table: &[u32], mut r: Registers) -> Registers
-    requires { table.now ≡ sines }
+fn process(blocks: &[[u8; 64]], r: Registers) -> Registers
     ensures { result ≡ fold (λ r x. block x r) r blocks.now }
 {
-    for octets in blocks {
-        r = Block { octets, table }.compress(r);
-    }
-    r
+    blocks.iter().fold(r, |r, x| r.compress(x))
 }
 
 // How many octets follow the whole blocks of a message of `len` octets, once it is padded.
@@ -59,10 +55,10 @@ impl Digest for Md5 {
 
     fn words(&self, name: &[u8]) -> [u32; 4] {
         let (blocks, rest) = name.as_chunks();
-        let r = process(blocks, &SINES, INITIAL);
+        let r = process(blocks, INITIAL);
         let mut buffer = [0; 128];
         let (blocks, _) = pad(rest, name.len(), &mut buffer).as_chunks();
-        let r = process(blocks, &SINES, r);
+        let r = process(blocks, r);
         r.words()
     }
 }

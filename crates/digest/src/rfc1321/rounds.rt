@@ -2,8 +2,8 @@
 ghost use Rattle.std.specs.Prelude.{◌≡◌, ◌<◌, ◌/◌};
 ghost use Rattle.digest.specs.Md5.{word, sines, aux_f, aux_g, aux_h, aux_i, aux, place, shift, turned, step, steps, block, output, big_words};
 
-// T[1] to T[64] of RFC 1321, section 3.4. Blocks read it through a slice: a constant in the code would be added last, one cycle later in each step.
-pub static SINES: [u32; 64] = [
+// T[1] to T[64] of RFC 1321, section 3.4.
+const SINES: [u32; 64] = [
     0xd76aa478, 0xe8c7b756, 0x242070db, 0xc1bdceee, 0xf57c0faf, 0x4787c62a, 0xa8304613, 0xfd469501,
     0x698098d8, 0x8b44f7af, 0xffff5bb1, 0x895cd7be, 0x6b901122, 0xfd987193, 0xa679438e, 0x49b40821,
     0xf61e2562, 0xc040b340, 0x265e5a51, 0xe9b6c7aa, 0xd62f105d, 0x02441453, 0xd8a1e681, 0xe7d3fbc8,
@@ -23,6 +23,14 @@ pub struct Registers {
     pub d: u32,
 }
 
+// X[k] of the block `x`.
+fn word(x: &[u8; 64], k: usize) -> u32
+    requires { k < 16 }
+    ensures { result ≡ word x.now k }
+{
+    u32::from_le_bytes([x[4 * k], x[4 * k + 1], x[4 * k + 2], x[4 * k + 3]])
+}
+
 impl Registers {
     // a = b + ((a + f + X[k] + T[i]) <<< s), and the registers change places.
     fn turn(self, f: u32, x: u32, t: u32, s: u32) -> Registers
@@ -38,185 +46,162 @@ impl Registers {
         }
     }
 
+    // Step i over the block `x`, by the round's auxiliary function of the registers, and with k and s as the RFC lists them.
+    fn step(self, x: &[u8; 64], f: u32, k: usize, s: u32, i: usize) -> Registers
+        requires number { i < 64 }
+        requires auxiliary { f ≡ aux i self.b self.c self.d }
+        requires place { (k ≡ place i) × (k < 16) }
+        requires shift { (s ≡ shift i) × (0 < s) × (s < 32) }
+        ensures { result ≡ step x.now i self }
+    {
+        self.turn(f, word(x, k), SINES[i], s)
+    }
+
+    // A step of round 1, by F.
+    fn ff(self, x: &[u8; 64], k: usize, s: u32, i: usize) -> Registers
+        requires round { i / 16 ≡ 0 }
+        requires place { (k ≡ place i) × (k < 16) }
+        requires shift { (s ≡ shift i) × (0 < s) × (s < 32) }
+        ensures { result ≡ step x.now i self }
+    {
+        self.step(x, (self.b & self.c) | (!self.b & self.d), k, s, i)
+    }
+
+    // A step of round 2, by G.
+    fn gg(self, x: &[u8; 64], k: usize, s: u32, i: usize) -> Registers
+        requires round { i / 16 ≡ 1 }
+        requires place { (k ≡ place i) × (k < 16) }
+        requires shift { (s ≡ shift i) × (0 < s) × (s < 32) }
+        ensures { result ≡ step x.now i self }
+    {
+        self.step(x, (self.b & self.d) | (self.c & !self.d), k, s, i)
+    }
+
+    // A step of round 3, by H.
+    fn hh(self, x: &[u8; 64], k: usize, s: u32, i: usize) -> Registers
+        requires round { i / 16 ≡ 2 }
+        requires place { (k ≡ place i) × (k < 16) }
+        requires shift { (s ≡ shift i) × (0 < s) × (s < 32) }
+        ensures { result ≡ step x.now i self }
+    {
+        self.step(x, self.b ^ self.c ^ self.d, k, s, i)
+    }
+
+    // A step of round 4, by I.
+    fn ii(self, x: &[u8; 64], k: usize, s: u32, i: usize) -> Registers
+        requires round { i / 16 ≡ 3 }
+        requires place { (k ≡ place i) × (k < 16) }
+        requires shift { (s ≡ shift i) × (0 < s) × (s < 32) }
+        ensures { result ≡ step x.now i self }
+    {
+        self.step(x, self.c ^ (self.b | !self.d), k, s, i)
+    }
+
+    // The first round, as the RFC lists it: X[k], the shift, and the number of the step.
+    fn round1(self, x: &[u8; 64]) -> Registers
+        ensures { result ≡ steps x.now 0 16 self }
+    {
+        let r = self.ff(x, 0, 7, 0);
+        let r = r.ff(x, 1, 12, 1);
+        let r = r.ff(x, 2, 17, 2);
+        let r = r.ff(x, 3, 22, 3);
+        let r = r.ff(x, 4, 7, 4);
+        let r = r.ff(x, 5, 12, 5);
+        let r = r.ff(x, 6, 17, 6);
+        let r = r.ff(x, 7, 22, 7);
+        let r = r.ff(x, 8, 7, 8);
+        let r = r.ff(x, 9, 12, 9);
+        let r = r.ff(x, 10, 17, 10);
+        let r = r.ff(x, 11, 22, 11);
+        let r = r.ff(x, 12, 7, 12);
+        let r = r.ff(x, 13, 12, 13);
+        let r = r.ff(x, 14, 17, 14);
+        r.ff(x, 15, 22, 15)
+    }
+
+    // The second round, as the RFC lists it: X[k], the shift, and the number of the step.
+    fn round2(self, x: &[u8; 64]) -> Registers
+        ensures { result ≡ steps x.now 16 16 self }
+    {
+        let r = self.gg(x, 1, 5, 16);
+        let r = r.gg(x, 6, 9, 17);
+        let r = r.gg(x, 11, 14, 18);
+        let r = r.gg(x, 0, 20, 19);
+        let r = r.gg(x, 5, 5, 20);
+        let r = r.gg(x, 10, 9, 21);
+        let r = r.gg(x, 15, 14, 22);
+        let r = r.gg(x, 4, 20, 23);
+        let r = r.gg(x, 9, 5, 24);
+        let r = r.gg(x, 14, 9, 25);
+        let r = r.gg(x, 3, 14, 26);
+        let r = r.gg(x, 8, 20, 27);
+        let r = r.gg(x, 13, 5, 28);
+        let r = r.gg(x, 2, 9, 29);
+        let r = r.gg(x, 7, 14, 30);
+        r.gg(x, 12, 20, 31)
+    }
+
+    // The third round, as the RFC lists it: X[k], the shift, and the number of the step.
+    fn round3(self, x: &[u8; 64]) -> Registers
+        ensures { result ≡ steps x.now 32 16 self }
+    {
+        let r = self.hh(x, 5, 4, 32);
+        let r = r.hh(x, 8, 11, 33);
+        let r = r.hh(x, 11, 16, 34);
+        let r = r.hh(x, 14, 23, 35);
+        let r = r.hh(x, 1, 4, 36);
+        let r = r.hh(x, 4, 11, 37);
+        let r = r.hh(x, 7, 16, 38);
+        let r = r.hh(x, 10, 23, 39);
+        let r = r.hh(x, 13, 4, 40);
+        let r = r.hh(x, 0, 11, 41);
+        let r = r.hh(x, 3, 16, 42);
+        let r = r.hh(x, 6, 23, 43);
+        let r = r.hh(x, 9, 4, 44);
+        let r = r.hh(x, 12, 11, 45);
+        let r = r.hh(x, 15, 16, 46);
+        r.hh(x, 2, 23, 47)
+    }
+
+    // The fourth round, as the RFC lists it: X[k], the shift, and the number of the step.
+    fn round4(self, x: &[u8; 64]) -> Registers
+        ensures { result ≡ steps x.now 48 16 self }
+    {
+        let r = self.ii(x, 0, 6, 48);
+        let r = r.ii(x, 7, 10, 49);
+        let r = r.ii(x, 14, 15, 50);
+        let r = r.ii(x, 5, 21, 51);
+        let r = r.ii(x, 12, 6, 52);
+        let r = r.ii(x, 3, 10, 53);
+        let r = r.ii(x, 10, 15, 54);
+        let r = r.ii(x, 1, 21, 55);
+        let r = r.ii(x, 8, 6, 56);
+        let r = r.ii(x, 15, 10, 57);
+        let r = r.ii(x, 6, 15, 58);
+        let r = r.ii(x, 13, 21, 59);
+        let r = r.ii(x, 4, 6, 60);
+        let r = r.ii(x, 11, 10, 61);
+        let r = r.ii(x, 2, 15, 62);
+        r.ii(x, 9, 21, 63)
+    }
+
+    // The registers after the block `x`.
+    pub fn compress(self, x: &[u8; 64]) -> Registers
+        ensures { result ≡ block x.now self }
+    {
+        let r = self.round1(x).round2(x).round3(x).round4(x);
+        Registers {
+            a: self.a.wrapping_add(r.a),
+            b: self.b.wrapping_add(r.b),
+            c: self.c.wrapping_add(r.c),
+            d: self.d.wrapping_add(r.d),
+        }
+    }
+
     // The octets of the registers as words, the highest octet of each first.
     pub fn words(self) -> [u32; 4]
         ensures { result ≡ big_words (output self) }
     {
         [self.a, self.b, self.c, self.d].map(u32::swap_bytes)
-    }
-}
-
-// The 64 octets of a block, with the table of sines.
-#[derive(Clone, Copy)]
-pub struct Block<'m, 't> {
-    pub octets: &'m [u8; 64],
-    pub table: &'t [u32],
-    ghost known: { table.now ≡ sines },
-}
-
-impl<'m, 't> Block<'m, 't> {
-    // X[k].
-    fn word(self, k: usize) -> u32
-        requires { k < 16 }
-        ensures { result ≡ word self.entry.octets.now k }
-    {
-        let x = self.octets;
-        u32::from_le_bytes([x[4 * k], x[4 * k + 1], x[4 * k + 2], x[4 * k + 3]])
-    }
-
-    // Step i, from the registers `r`: by the round's auxiliary function of them, and with k and s as the RFC lists them.
-    fn step(self, r: Registers, f: u32, k: usize, s: u32, i: usize) -> Registers
-        requires number { i < 64 }
-        requires auxiliary { f ≡ aux i r.b r.c r.d }
-        requires place { (k ≡ place i) × (k < 16) }
-        requires shift { (s ≡ shift i) × (0 < s) × (s < 32) }
-        ensures { result ≡ step self.entry.octets.now i r }
-    {
-        r.turn(f, self.word(k), self.table[i], s)
-    }
-
-    // A step by F.
-    fn ff(self, r: Registers, k: usize, s: u32, i: usize) -> Registers
-        requires number { i < 64 }
-        requires round { i / 16 ≡ 0 }
-        requires place { (k ≡ place i) × (k < 16) }
-        requires shift { (s ≡ shift i) × (0 < s) × (s < 32) }
-        ensures { result ≡ step self.entry.octets.now i r }
-    {
-        self.step(r, (r.b & r.c) | (!r.b & r.d), k, s, i)
-    }
-
-    // A step by G.
-    fn gg(self, r: Registers, k: usize, s: u32, i: usize) -> Registers
-        requires number { i < 64 }
-        requires round { i / 16 ≡ 1 }
-        requires place { (k ≡ place i) × (k < 16) }
-        requires shift { (s ≡ shift i) × (0 < s) × (s < 32) }
-        ensures { result ≡ step self.entry.octets.now i r }
-    {
-        self.step(r, (r.b & r.d) | (r.c & !r.d), k, s, i)
-    }
-
-    // A step by H.
-    fn hh(self, r: Registers, k: usize, s: u32, i: usize) -> Registers
-        requires number { i < 64 }
-        requires round { i / 16 ≡ 2 }
-        requires place { (k ≡ place i) × (k < 16) }
-        requires shift { (s ≡ shift i) × (0 < s) × (s < 32) }
-        ensures { result ≡ step self.entry.octets.now i r }
-    {
-        self.step(r, r.b ^ r.c ^ r.d, k, s, i)
-    }
-
-    // A step by I.
-    fn ii(self, r: Registers, k: usize, s: u32, i: usize) -> Registers
-        requires number { i < 64 }
-        requires round { i / 16 ≡ 3 }
-        requires place { (k ≡ place i) × (k < 16) }
-        requires shift { (s ≡ shift i) × (0 < s) × (s < 32) }
-        ensures { result ≡ step self.entry.octets.now i r }
-    {
-        self.step(r, r.c ^ (r.b | !r.d), k, s, i)
-    }
-
-    // The first round, as the RFC lists it: X[k], the shift, and the number of the step.
-    fn round1(self, r: Registers) -> Registers
-        ensures { result ≡ steps self.entry.octets.now 0 16 r }
-    {
-        let r = self.ff(r, 0, 7, 0);
-        let r = self.ff(r, 1, 12, 1);
-        let r = self.ff(r, 2, 17, 2);
-        let r = self.ff(r, 3, 22, 3);
-        let r = self.ff(r, 4, 7, 4);
-        let r = self.ff(r, 5, 12, 5);
-        let r = self.ff(r, 6, 17, 6);
-        let r = self.ff(r, 7, 22, 7);
-        let r = self.ff(r, 8, 7, 8);
-        let r = self.ff(r, 9, 12, 9);
-        let r = self.ff(r, 10, 17, 10);
-        let r = self.ff(r, 11, 22, 11);
-        let r = self.ff(r, 12, 7, 12);
-        let r = self.ff(r, 13, 12, 13);
-        let r = self.ff(r, 14, 17, 14);
-        self.ff(r, 15, 22, 15)
-    }
-
-    // The second round, as the RFC lists it: X[k], the shift, and the number of the step.
-    fn round2(self, r: Registers) -> Registers
-        ensures { result ≡ steps self.entry.octets.now 16 16 r }
-    {
-        let r = self.gg(r, 1, 5, 16);
-        let r = self.gg(r, 6, 9, 17);
-        let r = self.gg(r, 11, 14, 18);
-        let r = self.gg(r, 0, 20, 19);
-        let r = self.gg(r, 5, 5, 20);
-        let r = self.gg(r, 10, 9, 21);
-        let r = self.gg(r, 15, 14, 22);
-        let r = self.gg(r, 4, 20, 23);
-        let r = self.gg(r, 9, 5, 24);
-        let r = self.gg(r, 14, 9, 25);
-        let r = self.gg(r, 3, 14, 26);
-        let r = self.gg(r, 8, 20, 27);
-        let r = self.gg(r, 13, 5, 28);
-        let r = self.gg(r, 2, 9, 29);
-        let r = self.gg(r, 7, 14, 30);
-        self.gg(r, 12, 20, 31)
-    }
-
-    // The third round, as the RFC lists it: X[k], the shift, and the number of the step.
-    fn round3(self, r: Registers) -> Registers
-        ensures { result ≡ steps self.entry.octets.now 32 16 r }
-    {
-        let r = self.hh(r, 5, 4, 32);
-        let r = self.hh(r, 8, 11, 33);
-        let r = self.hh(r, 11, 16, 34);
-        let r = self.hh(r, 14, 23, 35);
-        let r = self.hh(r, 1, 4, 36);
-        let r = self.hh(r, 4, 11, 37);
-        let r = self.hh(r, 7, 16, 38);
-        let r = self.hh(r, 10, 23, 39);
-        let r = self.hh(r, 13, 4, 40);
-        let r = self.hh(r, 0, 11, 41);
-        let r = self.hh(r, 3, 16, 42);
-        let r = self.hh(r, 6, 23, 43);
-        let r = self.hh(r, 9, 4, 44);
-        let r = self.hh(r, 12, 11, 45);
-        let r = self.hh(r, 15, 16, 46);
-        self.hh(r, 2, 23, 47)
-    }
-
-    // The fourth round, as the RFC lists it: X[k], the shift, and the number of the step.
-    fn round4(self, r: Registers) -> Registers
-        ensures { result ≡ steps self.entry.octets.now 48 16 r }
-    {
-        let r = self.ii(r, 0, 6, 48);
-        let r = self.ii(r, 7, 10, 49);
-        let r = self.ii(r, 14, 15, 50);
-        let r = self.ii(r, 5, 21, 51);
-        let r = self.ii(r, 12, 6, 52);
-        let r = self.ii(r, 3, 10, 53);
-        let r = self.ii(r, 10, 15, 54);
-        let r = self.ii(r, 1, 21, 55);
-        let r = self.ii(r, 8, 6, 56);
-        let r = self.ii(r, 15, 10, 57);
-        let r = self.ii(r, 6, 15, 58);
-        let r = self.ii(r, 13, 21, 59);
-        let r = self.ii(r, 4, 6, 60);
-        let r = self.ii(r, 11, 10, 61);
-        let r = self.ii(r, 2, 15, 62);
-        self.ii(r, 9, 21, 63)
-    }
-
-    // The registers after the block.
-    pub fn compress(self, r: Registers) -> Registers
-        ensures { result ≡ block self.entry.octets.now r }
-    {
-        let q = self.round4(self.round3(self.round2(self.round1(r))));
-        Registers {
-            a: r.a.wrapping_add(q.a),
-            b: r.b.wrapping_add(q.b),
-            c: r.c.wrapping_add(q.c),
-            d: r.d.wrapping_add(q.d),
-        }
     }
 }
