@@ -1,10 +1,10 @@
--- The array that holds the end of a padded message, and the order of octets.
-use Rattle.std.proofs.Common.{◌≡◌, ℕ, suc, ◌+◌, ◌-◌, ◌*◌, ◌/◌, ◌%◌, ◌≤◌, List, [], ◌∷◌, ◌++◌, length, take, drop, set, replicate, sym, refl, ap, ◌∙◌, append_assoc, zero-add, arith, length-append}
+-- The array that holds the end of a padded message.
+use Rattle.std.proofs.Common.{◌≡◌, ℕ, suc, ◌+◌, ◌-◌, ◌/◌, ◌%◌, ◌≤◌, List, [], ◌∷◌, ◌++◌, length, take, drop, set, replicate, sym, refl, ap, ◌∙◌, append_assoc, arith, length-append}
 use native.Mathlib.Nat.{div-div-eq-div-mul}
 use lib.ListN.{length-replicate}
 use lib.Seq.{take-append-add}
 use Rattle.std.proofs.lemmas.List.{drop-replicate, take-replicate, set_at, take_at}
-use Rattle.digest.specs.Md5.{octets, big_word}
+use Rattle.digest.specs.Md5.{octets}
 
 -- the octets of a number of 64 bits, as the code has them
 pub octets_8 : (x : ℕ)
@@ -33,7 +33,3 @@ module _ (r o : List ℕ) (z e : ℕ) (long : length o ≡ 8) (is : e ≡ length
       ∙ ap (take e) (sym (append_assoc (r ++ 128 ∷ replicate z 0) o w))
       ∙ take_at ((r ++ 128 ∷ replicate z 0) ++ o) w e k
       ∙ append_assoc r (128 ∷ replicate z 0) o
-
--- a word whose octets are turned about
-pub swapped : (a : ℕ) → a % 256 * 16777216 + a / 256 % 256 * 65536 + a / 65536 % 256 * 256 + a / 16777216 % 256 ≡ big_word (octets 4 a) 0
-swapped a = sym (simp div-div-eq-div-mul)

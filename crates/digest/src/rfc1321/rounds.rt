@@ -1,6 +1,6 @@
 // One block of MD5: 64 steps over sixteen words, in four rounds.
 ghost use Rattle.std.specs.Prelude.{◌≡◌, ◌<◌, ◌/◌};
-ghost use Rattle.digest.specs.Md5.{word, sines, aux_f, aux_g, aux_h, aux_i, aux, place, shift, turned, step, steps, block, output, big_words};
+ghost use Rattle.digest.specs.Md5.{word, sines, aux_f, aux_g, aux_h, aux_i, aux, IsListed, turned, step, steps, block, output, big_words};
 
 // T[1] to T[64] of RFC 1321, section 3.4.
 const SINES: [u32; 64] = [
@@ -37,7 +37,7 @@ impl Registers {
         requires { (0 < s) × (s < 32) }
         ensures { result ≡ turned self f x t s }
     {
-        let sum = self.a.wrapping_add(x).wrapping_add(t).wrapping_add(f);
+        let sum = self.a.wrapping_add(f).wrapping_add(x).wrapping_add(t);
         Registers {
             a: self.d,
             b: self.b.wrapping_add(sum.rotate_left(s)),
@@ -50,8 +50,7 @@ impl Registers {
     fn step(self, x: &[u8; 64], f: u32, k: usize, s: u32, i: usize) -> Registers
         requires number { i < 64 }
         requires auxiliary { f ≡ aux i self.b self.c self.d }
-        requires place { (k ≡ place i) × (k < 16) }
-        requires shift { (s ≡ shift i) × (0 < s) × (s < 32) }
+        requires listed { IsListed i k s }
         ensures { result ≡ step x.now i self }
     {
         self.turn(f, word(x, k), SINES[i], s)
@@ -60,8 +59,7 @@ impl Registers {
     // A step of round 1, by F.
     fn ff(self, x: &[u8; 64], k: usize, s: u32, i: usize) -> Registers
         requires round { i / 16 ≡ 0 }
-        requires place { (k ≡ place i) × (k < 16) }
-        requires shift { (s ≡ shift i) × (0 < s) × (s < 32) }
+        requires listed { IsListed i k s }
         ensures { result ≡ step x.now i self }
     {
         self.step(x, (self.b & self.c) | (!self.b & self.d), k, s, i)
@@ -70,8 +68,7 @@ impl Registers {
     // A step of round 2, by G.
     fn gg(self, x: &[u8; 64], k: usize, s: u32, i: usize) -> Registers
         requires round { i / 16 ≡ 1 }
-        requires place { (k ≡ place i) × (k < 16) }
-        requires shift { (s ≡ shift i) × (0 < s) × (s < 32) }
+        requires listed { IsListed i k s }
         ensures { result ≡ step x.now i self }
     {
         self.step(x, (self.b & self.d) | (self.c & !self.d), k, s, i)
@@ -80,8 +77,7 @@ impl Registers {
     // A step of round 3, by H.
     fn hh(self, x: &[u8; 64], k: usize, s: u32, i: usize) -> Registers
         requires round { i / 16 ≡ 2 }
-        requires place { (k ≡ place i) × (k < 16) }
-        requires shift { (s ≡ shift i) × (0 < s) × (s < 32) }
+        requires listed { IsListed i k s }
         ensures { result ≡ step x.now i self }
     {
         self.step(x, self.b ^ self.c ^ self.d, k, s, i)
@@ -90,8 +86,7 @@ impl Registers {
     // A step of round 4, by I.
     fn ii(self, x: &[u8; 64], k: usize, s: u32, i: usize) -> Registers
         requires round { i / 16 ≡ 3 }
-        requires place { (k ≡ place i) × (k < 16) }
-        requires shift { (s ≡ shift i) × (0 < s) × (s < 32) }
+        requires listed { IsListed i k s }
         ensures { result ≡ step x.now i self }
     {
         self.step(x, self.c ^ (self.b | !self.d), k, s, i)
@@ -101,88 +96,88 @@ impl Registers {
     fn round1(self, x: &[u8; 64]) -> Registers
         ensures { result ≡ steps x.now 0 16 self }
     {
-        let r = self.ff(x, 0, 7, 0);
-        let r = r.ff(x, 1, 12, 1);
-        let r = r.ff(x, 2, 17, 2);
-        let r = r.ff(x, 3, 22, 3);
-        let r = r.ff(x, 4, 7, 4);
-        let r = r.ff(x, 5, 12, 5);
-        let r = r.ff(x, 6, 17, 6);
-        let r = r.ff(x, 7, 22, 7);
-        let r = r.ff(x, 8, 7, 8);
-        let r = r.ff(x, 9, 12, 9);
-        let r = r.ff(x, 10, 17, 10);
-        let r = r.ff(x, 11, 22, 11);
-        let r = r.ff(x, 12, 7, 12);
-        let r = r.ff(x, 13, 12, 13);
-        let r = r.ff(x, 14, 17, 14);
-        r.ff(x, 15, 22, 15)
+        self.ff(x, 0, 7, 0)
+            .ff(x, 1, 12, 1)
+            .ff(x, 2, 17, 2)
+            .ff(x, 3, 22, 3)
+            .ff(x, 4, 7, 4)
+            .ff(x, 5, 12, 5)
+            .ff(x, 6, 17, 6)
+            .ff(x, 7, 22, 7)
+            .ff(x, 8, 7, 8)
+            .ff(x, 9, 12, 9)
+            .ff(x, 10, 17, 10)
+            .ff(x, 11, 22, 11)
+            .ff(x, 12, 7, 12)
+            .ff(x, 13, 12, 13)
+            .ff(x, 14, 17, 14)
+            .ff(x, 15, 22, 15)
     }
 
     // The second round, as the RFC lists it: X[k], the shift, and the number of the step.
     fn round2(self, x: &[u8; 64]) -> Registers
         ensures { result ≡ steps x.now 16 16 self }
     {
-        let r = self.gg(x, 1, 5, 16);
-        let r = r.gg(x, 6, 9, 17);
-        let r = r.gg(x, 11, 14, 18);
-        let r = r.gg(x, 0, 20, 19);
-        let r = r.gg(x, 5, 5, 20);
-        let r = r.gg(x, 10, 9, 21);
-        let r = r.gg(x, 15, 14, 22);
-        let r = r.gg(x, 4, 20, 23);
-        let r = r.gg(x, 9, 5, 24);
-        let r = r.gg(x, 14, 9, 25);
-        let r = r.gg(x, 3, 14, 26);
-        let r = r.gg(x, 8, 20, 27);
-        let r = r.gg(x, 13, 5, 28);
-        let r = r.gg(x, 2, 9, 29);
-        let r = r.gg(x, 7, 14, 30);
-        r.gg(x, 12, 20, 31)
+        self.gg(x, 1, 5, 16)
+            .gg(x, 6, 9, 17)
+            .gg(x, 11, 14, 18)
+            .gg(x, 0, 20, 19)
+            .gg(x, 5, 5, 20)
+            .gg(x, 10, 9, 21)
+            .gg(x, 15, 14, 22)
+            .gg(x, 4, 20, 23)
+            .gg(x, 9, 5, 24)
+            .gg(x, 14, 9, 25)
+            .gg(x, 3, 14, 26)
+            .gg(x, 8, 20, 27)
+            .gg(x, 13, 5, 28)
+            .gg(x, 2, 9, 29)
+            .gg(x, 7, 14, 30)
+            .gg(x, 12, 20, 31)
     }
 
     // The third round, as the RFC lists it: X[k], the shift, and the number of the step.
     fn round3(self, x: &[u8; 64]) -> Registers
         ensures { result ≡ steps x.now 32 16 self }
     {
-        let r = self.hh(x, 5, 4, 32);
-        let r = r.hh(x, 8, 11, 33);
-        let r = r.hh(x, 11, 16, 34);
-        let r = r.hh(x, 14, 23, 35);
-        let r = r.hh(x, 1, 4, 36);
-        let r = r.hh(x, 4, 11, 37);
-        let r = r.hh(x, 7, 16, 38);
-        let r = r.hh(x, 10, 23, 39);
-        let r = r.hh(x, 13, 4, 40);
-        let r = r.hh(x, 0, 11, 41);
-        let r = r.hh(x, 3, 16, 42);
-        let r = r.hh(x, 6, 23, 43);
-        let r = r.hh(x, 9, 4, 44);
-        let r = r.hh(x, 12, 11, 45);
-        let r = r.hh(x, 15, 16, 46);
-        r.hh(x, 2, 23, 47)
+        self.hh(x, 5, 4, 32)
+            .hh(x, 8, 11, 33)
+            .hh(x, 11, 16, 34)
+            .hh(x, 14, 23, 35)
+            .hh(x, 1, 4, 36)
+            .hh(x, 4, 11, 37)
+            .hh(x, 7, 16, 38)
+            .hh(x, 10, 23, 39)
+            .hh(x, 13, 4, 40)
+            .hh(x, 0, 11, 41)
+            .hh(x, 3, 16, 42)
+            .hh(x, 6, 23, 43)
+            .hh(x, 9, 4, 44)
+            .hh(x, 12, 11, 45)
+            .hh(x, 15, 16, 46)
+            .hh(x, 2, 23, 47)
     }
 
     // The fourth round, as the RFC lists it: X[k], the shift, and the number of the step.
     fn round4(self, x: &[u8; 64]) -> Registers
         ensures { result ≡ steps x.now 48 16 self }
     {
-        let r = self.ii(x, 0, 6, 48);
-        let r = r.ii(x, 7, 10, 49);
-        let r = r.ii(x, 14, 15, 50);
-        let r = r.ii(x, 5, 21, 51);
-        let r = r.ii(x, 12, 6, 52);
-        let r = r.ii(x, 3, 10, 53);
-        let r = r.ii(x, 10, 15, 54);
-        let r = r.ii(x, 1, 21, 55);
-        let r = r.ii(x, 8, 6, 56);
-        let r = r.ii(x, 15, 10, 57);
-        let r = r.ii(x, 6, 15, 58);
-        let r = r.ii(x, 13, 21, 59);
-        let r = r.ii(x, 4, 6, 60);
-        let r = r.ii(x, 11, 10, 61);
-        let r = r.ii(x, 2, 15, 62);
-        r.ii(x, 9, 21, 63)
+        self.ii(x, 0, 6, 48)
+            .ii(x, 7, 10, 49)
+            .ii(x, 14, 15, 50)
+            .ii(x, 5, 21, 51)
+            .ii(x, 12, 6, 52)
+            .ii(x, 3, 10, 53)
+            .ii(x, 10, 15, 54)
+            .ii(x, 1, 21, 55)
+            .ii(x, 8, 6, 56)
+            .ii(x, 15, 10, 57)
+            .ii(x, 6, 15, 58)
+            .ii(x, 13, 21, 59)
+            .ii(x, 4, 6, 60)
+            .ii(x, 11, 10, 61)
+            .ii(x, 2, 15, 62)
+            .ii(x, 9, 21, 63)
     }
 
     // The registers after the block `x`.
