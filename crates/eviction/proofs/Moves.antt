@@ -3,7 +3,7 @@ use Rattle.std.proofs.Common.{◌≡◌, ℕ, zero, suc, ◌+◌, ◌-◌, ◌<�
 use lib.Seq.{set_split, take-append-le, take-set-le}
 use borrow.Rule.Slice.PartMut.{post_of}
 use Rattle.std.specs.List.Sorted.{IsPermutation}
-use Rattle.std.specs.Cmp.{IsStrictWeakOrder}
+use Rattle.std.specs.Cmp.{IsTotalOrder, IsStrictWeakOrder}
 use Rattle.std.specs.Slice.Heapsort.{IsHeapWithin}
 use Rattle.std.specs.BinaryHeap.Sift.{IsHeapWithHole}
 use Rattle.std.proofs.lemmas.List.Sorted.{IsPermutation-refl, IsPermutation-trans, IsPermutation-sym, IsPermutation-cons, IsPermutation-to_front, IsPermutation-swap}
@@ -113,31 +113,31 @@ module _ {K : Type 0} (R : K → K → Ordering) where
   -- one more at the end, and up from there
   pub put_keeps : (xs ys : List (Entry K)) (x : Entry K) → Rises R (xs ++ x ∷ []) (length xs) ys → Keeps R xs ys
   unfolding Rises
-  put_keeps xs ys x rises = λ o h.
+  put_keeps xs ys x rises = λ h.
       let w = xs ++ x ∷ [] in
       let n = length xs in
       let long : length w ≡ n + 1 = length-append xs (x ∷ []) in
       let low : IsHeapWithin (after (below R)) w 0 n = agrees (after (below R)) xs w n n (omega arith) (λ i d a. get_or_append_left xs (x ∷ []) d i a) h in
-      rises o (
+      rises (
         (λ p c d a b f u v. low p c d (omega arith) a b (omega arith), λ p c d a b a' b' f. absurd (omega arith)),
         λ c d a b f. absurd (omega arith),
       )
 
   -- the entry at `at` is another, among the first k
-  pub mend_keeps : (xs ys : List (Entry K)) (at k : ℕ) (v : Entry K) → k ≤ length xs → Mends R (take k (set xs at v)) at ys → Keeps R xs ys
+  pub mend_keeps : IsTotalOrder R → (xs ys : List (Entry K)) (at k : ℕ) (v : Entry K) → k ≤ length xs → Mends R (take k (set xs at v)) at ys → Keeps R xs ys
   unfolding Mends
-  mend_keeps xs ys at k v le mends = λ o h.
+  mend_keeps o xs ys at k v le mends = λ h.
       let w = take k (set xs at v) in
       let long : length w ≡ k = length-take-le k (set xs at v) (omega (arith, length-set xs at v)) in
-      mends o (gap (after (below R)) (sifts.ranks o) xs w at (length w) (length xs) (omega arith) (λ i d a b. other xs at k v i d (omega arith) b) h)
+      mends (gap (after (below R)) (sifts.ranks o) xs w at (length w) (length xs) (omega arith) (λ i d a b. other xs at k v i d (omega arith) b) h)
 
   -- the last one leaves
   pub end_keeps : (xs : List (Entry K)) (at k : ℕ) (v : Entry K) → k ≤ length xs → k ≤ at → Keeps R xs (take k (set xs at v))
-  end_keeps xs at k v le end = λ o h.
+  end_keeps xs at k v le end = λ h.
       let w = take k (set xs at v) in
       let long : length w ≡ k = length-take-le k (set xs at v) (omega (arith, length-set xs at v)) in
       agrees (after (below R)) xs w (length w) (length xs) (omega arith) (λ i d a. other xs at k v i d (omega arith) (omega arith)) h
 
   -- the first is least
-  pub leads : (xs : List (Entry K)) (x : Entry K) → ((d : Entry K) → x ≡ get_or xs 0 d) → Leads R x xs
-  leads xs x first = λ o h i d lt. sifts.by (after (below R)) x (get_or xs i d) (get_or xs 0 d) (get_or xs i d) (first d) refl (sifts.top (after (below R)) (sifts.ranks o) xs (length xs) d h i i (omega arith) lt)
+  pub leads : IsTotalOrder R → (xs : List (Entry K)) (x : Entry K) → ((d : Entry K) → x ≡ get_or xs 0 d) → Leads R x xs
+  leads o xs x first = λ h i d lt. sifts.by (after (below R)) x (get_or xs i d) (get_or xs 0 d) (get_or xs i d) (first d) refl (sifts.top (after (below R)) (sifts.ranks o) xs (length xs) d h i i (omega arith) lt)

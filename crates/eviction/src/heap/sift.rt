@@ -78,12 +78,7 @@ pub(crate) fn mend<R: Ord + Copy>(live: &mut [Entry<R>], at: usize)
 pub(crate) fn position<R: Copy>(live: &[Entry<R>], place: usize) -> Option<usize>
     ensures { MatchOption result (Lacks live.now place) (λ i. (i < length live.now) × ((d : Entry R) → (slice_index_or live.now i d).place ≡ place)) }
 {
-    for (i, e) in live.iter().enumerate() {
-        if e.place == place {
-            return Some(i);
-        }
-    }
-    None
+    live.iter().position(|e| e.place == place)
 }
 
 // Takes the entry at `at` out: the last one comes there, and the last place is free.

@@ -9,7 +9,7 @@ use Rattle.eviction.proofs.Moves as moves
 use Rattle.eviction.proofs.heap.EvictionHeap.insert.Goals as goal
 
 pub returns-then-at-entries : goal.returns-then-at-entries
-returns-then-at-entries g c = record { order = λ o h. h; cases = (omega (arith, length-take c.args.self.now.len c.args.entries.now), refl, refl) }
+returns-then-at-entries g c = record { order = λ h. h; cases = (omega (arith, length-take c.args.self.now.len c.args.entries.now), refl, refl) }
 
 pub returns : goal.returns
 returns g c =

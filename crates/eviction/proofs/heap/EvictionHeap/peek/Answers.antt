@@ -15,4 +15,4 @@ returns g c =
     let xs = take n es in
     let some : 0 < length xs = omega arith in
     let first : (d : Entry g.row.R.Denot) → x ≡ get_or xs 0 d = λ d. c.index-entries-0.is ∙ get_or_default es 0 x d (omega (arith, length-take n es)) ∙ sym (get_or-take n es 0 d (omega (arith, length-take n es))) in
-    (moves.headed xs x some first, moves.leads g.R.Ord.cmp xs x first)
+    (moves.headed xs x some first, moves.leads g.R.Ord.cmp g.met.R.Ord.total xs x first)

@@ -13,7 +13,7 @@ returns-in_err-at g c =
     let same = moves.unchanged es n in
     let lacks : Lacks (take m es) c.args.place = subst (λ l. Lacks l c.args.place) part c.in_err-at.ensures in
     record {
-      order = subst (λ l. Keeps g.R.Ord.cmp (take m es) (take m l)) (sym same) (λ o h. h);
+      order = subst (λ l. Keeps g.R.Ord.cmp (take m es) (take m l)) (sym same) (λ h. h);
       cases = rw c.from_residual.ensures (lacks, refl {a = c.args.self.now}, same);
     }
 

@@ -17,7 +17,7 @@ returns-in_err-at g c =
     let lacks : Lacks (take m es) c.args.place = subst (λ l. Lacks l c.args.place) part c.in_err-at.ensures in
     record {
       heap = refl {a = c.args.self.now};
-      order = subst (λ l. Keeps g.R.Ord.cmp (take m es) (take m l)) (sym same) (λ o h. h);
+      order = subst (λ l. Keeps g.R.Ord.cmp (take m es) (take m l)) (sym same) (λ h. h);
       cases = rw c.from_residual.ensures (lacks, same);
     }
 
@@ -47,6 +47,6 @@ returns g c =
     let into : IsPermutation ys (new ∷ moves.others xs at) = IsPermutation-trans ys w (new ∷ moves.others xs at) (IsPermutation-sym w ys shuffled) (moves.placed xs at new in') in
     record {
       heap = refl {a = c.args.self.now};
-      order = subst (Keeps g.R.Ord.cmp xs) (sym is) (moves.mend_keeps g.R.Ord.cmp xs ys at (length xs) new (omega arith) mends');
+      order = subst (Keeps g.R.Ord.cmp xs) (sym is) (moves.mend_keeps g.R.Ord.cmp g.met.R.Ord.total xs ys at (length xs) new (omega arith) mends');
       cases = (moves.found (take (n - 0) es) at c.args.place x c.index-live-at.is found.1, (moves.others xs at, out, subst (λ l. IsPermutation l (new ∷ moves.others xs at)) (sym is) into));
     }

@@ -7,7 +7,7 @@ use Rattle.eviction.proofs.Moves as moves
 use Rattle.eviction.proofs.heap.EvictionHeap.take_least.Goals as goal
 
 pub returns-then-len-eq0 : goal.returns-then-len-eq0
-returns-then-len-eq0 g c = record { order = λ o h. h; cases = (nil_from_length (take c.args.self.now.len c.args.entries.now) (omega arith), refl, refl) }
+returns-then-len-eq0 g c = record { order = λ h. h; cases = (nil_from_length (take c.args.self.now.len c.args.entries.now) (omega arith), refl, refl) }
 
 pub returns : goal.returns
 returns g c =
@@ -25,5 +25,5 @@ returns g c =
     let first : (d : Entry g.row.R.Denot) → x ≡ get_or xs 0 d = λ d. told.value d ∙ ap (λ l. get_or l 0 d) part in
     record {
       order = subst (Keeps g.R.Ord.cmp xs) (sym shorter) keeps;
-      cases = (moves.headed xs x (omega arith) first, moves.leads g.R.Ord.cmp xs x first, subst (λ l. IsPermutation xs (x ∷ l)) (sym shorter) shuffled);
+      cases = (moves.headed xs x (omega arith) first, moves.leads g.R.Ord.cmp g.met.R.Ord.total xs x first, subst (λ l. IsPermutation xs (x ∷ l)) (sym shorter) shuffled);
     }

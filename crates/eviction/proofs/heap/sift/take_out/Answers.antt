@@ -27,7 +27,7 @@ returns-then-at-last g c =
     record {
       value = λ d. c.index-live-at.is ∙ get_or_default xs at r d c.requires;
       shuffled = subst (λ l. IsPermutation xs (r ∷ l)) (sym is) (IsPermutation-trans xs (r ∷ take k w) (r ∷ ys) (moves.out_shuffles xs at k r v c.requires refl c.index-live-at.is c.index-live-last.is) (IsPermutation-cons r (take k w) ys shuffled));
-      keeps = subst (Keeps g.R.Ord.cmp xs) (sym is) (moves.mend_keeps g.R.Ord.cmp xs ys at k v (omega arith) mends);
+      keeps = subst (Keeps g.R.Ord.cmp xs) (sym is) (moves.mend_keeps g.R.Ord.cmp g.met.R.Ord.total xs ys at k v (omega arith) mends);
     }
 
 pub returns-else-at-last : goal.returns-else-at-last
