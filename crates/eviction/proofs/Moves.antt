@@ -1,5 +1,5 @@
 -- What a heap's operations leave, before and after the entries are sifted.
-use Rattle.std.proofs.Common.{◌≡◌, ℕ, zero, suc, ◌+◌, ◌-◌, ◌<◌, ◌≤◌, Bool, List, [], ◌∷◌, ◌++◌, length, get_or, take, drop, set, Ordering, sym, refl, ap, ◌∙◌, subst, arith, length-append, length-set, take-append-drop, drop_of_length-le, length-take-le, get_or-set_other, get_or-take, get_or-set_same, drop-set-lt}
+use Rattle.std.proofs.Common.{Option, MatchOption, slice_get, ◌≡◌, ℕ, zero, suc, ◌+◌, ◌-◌, ◌<◌, ◌≤◌, Bool, List, [], ◌∷◌, ◌++◌, length, get_or, take, drop, set, Ordering, sym, refl, ap, ◌∙◌, subst, arith, length-append, length-set, take-append-drop, drop_of_length-le, length-take-le, get_or-set_other, get_or-take, get_or-set_same, drop-set-lt}
 use lib.Seq.{set_split, take-append-le, take-set-le}
 use borrow.Rule.Slice.PartMut.{post_of}
 use Rattle.std.specs.List.Sorted.{IsPermutation}
@@ -21,17 +21,17 @@ module _ {X : Type 0} where
   front (suc m) (x ∷ es) = ap (λ l. x ∷ l) (front m es)
 
   -- the live ones as the part that is lent
-  pub part : (es : List X) (m n : ℕ) → n ≡ length (take m es) → take (n - 0) es ≡ take m es
-  part es m n e = let e' : n - 0 ≡ length (take m es) = omega arith in ap (λ k. take k es) e' ∙ front m es
+  pub part : (es : List X) (m n : ℕ) → n ≡ length (take m es) → take n es ≡ take m es
+  part es m n e = ap (λ k. take k es) e ∙ front m es
 
   -- the first k of what the part came back as
-  pub back : (es ys : List X) (k n : ℕ) → length ys ≡ n → k ≤ n → take k (ys ++ post_of 0 (n - 0) es) ≡ take k ys
-  back es ys k n e le = take-append-le k ys (post_of 0 (n - 0) es) (omega arith)
+  pub back : (es ys : List X) (k n : ℕ) → length ys ≡ n → k ≤ n → take k (ys ++ post_of 0 n es) ≡ take k ys
+  back es ys k n e le = take-append-le k ys (post_of 0 n es) (omega arith)
 
   -- a part that came back without its last
-  pub shorter : (es ys : List X) (n : ℕ) → n ≤ length es → length ys ≡ length (take (n - 0) es) → take (n - 1) (ys ++ post_of 0 (n - 0) es) ≡ take (length (take (n - 0) es) - 1) ys
+  pub shorter : (es ys : List X) (n : ℕ) → n ≤ length es → length ys ≡ length (take n es) → take (n - 1) (ys ++ post_of 0 n es) ≡ take (length (take n es) - 1) ys
   shorter es ys n le e =
-      let long : length (take (n - 0) es) ≡ n = length-take-le (n - 0) es (omega arith) ∙ omega arith in
+      let long : length (take n es) ≡ n = length-take-le n es (omega arith) in
       back es ys (n - 1) n (omega arith) (omega arith) ∙ ap (λ k. take (k - 1) ys) (sym long)
 
   fill : (m : ℕ) (es ys : List X) → length ys ≡ length (take m es) → take m (ys ++ drop (length (take m es)) es) ≡ ys
@@ -43,14 +43,13 @@ module _ {X : Type 0} where
   fill (suc m) (x ∷ es) (y ∷ ys) e = ap (λ l. y ∷ l) (fill m es ys (omega arith))
 
   -- a part that came back as long as it was
-  pub filled : (es ys : List X) (m n : ℕ) → n ≡ length (take m es) → length ys ≡ n → take m (ys ++ post_of 0 (n - 0) es) ≡ ys
+  pub filled : (es ys : List X) (m n : ℕ) → n ≡ length (take m es) → length ys ≡ n → take m (ys ++ post_of 0 n es) ≡ ys
   filled es ys m n is e =
-      let e' : n - 0 ≡ length (take m es) = omega arith in
-      ap (λ k. take m (ys ++ post_of 0 k es)) e' ∙ fill m es ys (omega arith)
+      ap (λ k. take m (ys ++ post_of 0 k es)) is ∙ fill m es ys (omega arith)
 
   -- a part that came back as it was
-  pub unchanged : (es : List X) (n : ℕ) → take (n - 0) es ++ post_of 0 (n - 0) es ≡ es
-  unchanged es n = take-append-drop (n - 0) es
+  pub unchanged : (es : List X) (n : ℕ) → take n es ++ post_of 0 n es ≡ es
+  unchanged es n = take-append-drop n es
 
   pub headed : (xs : List X) (x : X) → 0 < length xs → ((d : X) → x ≡ get_or xs 0 d) → xs ≡ x ∷ drop 1 xs
   headed [] x lt e = absurd (omega arith)
@@ -141,3 +140,7 @@ module _ {K : Type 0} (R : K → K → Ordering) where
   -- the first is least
   pub leads : IsTotalOrder R → (xs : List (Entry K)) (x : Entry K) → ((d : Entry K) → x ≡ get_or xs 0 d) → Leads R x xs
   leads o xs x first = λ h i d lt. sifts.by (after (below R)) x (get_or xs i d) (get_or xs 0 d) (get_or xs i d) (first d) refl (sifts.top (after (below R)) (sifts.ranks o) xs (length xs) d h i i (omega arith) lt)
+
+  pub first_leads : IsTotalOrder R → (xs : List (Entry K)) (r : Option (Entry K)) → r ≡ slice_get xs 0 → MatchOption r (xs ≡ []) (λ x. (xs ≡ x ∷ drop 1 xs) × Leads R x xs)
+  first_leads o [] r e = rw e refl
+  first_leads o (x ∷ xs) r e = rw e (refl, leads o (x ∷ xs) x (λ d. refl))

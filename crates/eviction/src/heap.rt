@@ -3,7 +3,7 @@ mod methods;
 mod sift;
 
 // A record's rank, and its place in the store.
-#[derive(Clone, Copy)]
+#[derive(Clone, Copy, PartialEq, Eq, Debug)]
 pub struct Entry<R> {
     pub rank: R,
     pub place: usize,

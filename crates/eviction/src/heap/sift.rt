@@ -92,7 +92,7 @@ pub(crate) fn take_out<R: Ord + Copy>(live: &mut [Entry<R>], at: usize) -> Entry
     let out = live[at];
     live[at] = live[last];
     if at < last {
-        mend(&mut live[0..last], at);
+        mend(&mut live[..last], at);
     }
     out
 }

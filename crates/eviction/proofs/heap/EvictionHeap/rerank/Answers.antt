@@ -1,4 +1,4 @@
-use Rattle.std.proofs.Common.{◌≡◌, ◌-◌, ◌<◌, ◌∷◌, length, get_or, take, set, sym, refl, ap, subst, arith, length-set, take_all}
+use Rattle.std.proofs.Common.{◌≡◌, ◌<◌, ◌∷◌, length, get_or, take, set, sym, refl, ap, subst, arith, length-set, take_all}
 use Rattle.std.specs.List.Sorted.{IsPermutation}
 use Rattle.std.proofs.lemmas.List.Sorted.{IsPermutation-trans, IsPermutation-sym, length_permutation}
 use Rattle.eviction.specs.declared.heap.Entry.{Entry}
@@ -48,5 +48,5 @@ returns g c =
     record {
       heap = refl {a = c.args.self.now};
       order = subst (Keeps g.R.Ord.cmp xs) (sym is) (moves.mend_keeps g.R.Ord.cmp g.met.R.Ord.total xs ys at (length xs) new (omega arith) mends');
-      cases = (moves.found (take (n - 0) es) at c.args.place x c.index-live-at.is found.1, (moves.others xs at, out, subst (λ l. IsPermutation l (new ∷ moves.others xs at)) (sym is) into));
+      cases = (moves.found (take n es) at c.args.place x c.index-live-at.is found.1, (moves.others xs at, out, subst (λ l. IsPermutation l (new ∷ moves.others xs at)) (sym is) into));
     }

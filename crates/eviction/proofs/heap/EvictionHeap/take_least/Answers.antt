@@ -1,4 +1,5 @@
-use Rattle.std.proofs.Common.{◌≡◌, ◌-◌, ◌∷◌, length, get_or, take, sym, refl, ap, ◌∙◌, subst, arith}
+use Rattle.std.proofs.Common.{◌≡◌, ◌-◌, ◌∷◌, ◌++◌, length, get_or, take, sym, refl, ap, ◌∙◌, subst, arith}
+use borrow.Rule.Slice.PartMut.{post_of}
 use Rattle.std.specs.List.Sorted.{IsPermutation}
 use Rattle.std.proofs.lemmas.List.{nil_from_length}
 use Rattle.eviction.specs.declared.heap.Entry.{Entry}
@@ -6,8 +7,11 @@ use Rattle.eviction.specs.Heaps.{Keeps}
 use Rattle.eviction.proofs.Moves as moves
 use Rattle.eviction.proofs.heap.EvictionHeap.take_least.Goals as goal
 
-pub returns-then-len-eq0 : goal.returns-then-len-eq0
-returns-then-len-eq0 g c = record { order = λ h. h; cases = (nil_from_length (take c.args.self.now.len c.args.entries.now) (omega arith), refl, refl) }
+pub returns-in_err-self : goal.returns-in_err-self
+returns-in_err-self g c = record {
+  order = λ h. h;
+  cases = rw c.from_residual.ensures (nil_from_length (take c.args.self.now.len c.args.entries.now) (omega arith), refl {a = c.args.self.now}, refl {a = c.args.entries.now});
+}
 
 pub returns : goal.returns
 returns g c =
@@ -18,8 +22,9 @@ returns g c =
     let ys = c.take_out.new.live in
     let told = c.take_out.ensures in
     let part = moves.part es c.args.self.now.len n c.len-len.ensures.live in
-    let shorter = moves.shorter es ys n c.len-len.ensures.within c.take_out.auto.live in
-    let left = take (length (take (n - 0) es) - 1) ys in
+    let less : c.in_ok-self.field-0 ≡ n - 1 = omega (arith, c.in_ok-self.ensures) in
+    let shorter = ap (λ k. take k (ys ++ post_of 0 n es)) less ∙ moves.shorter es ys n c.len-len.ensures.within c.take_out.auto.live in
+    let left = take (length (take n es) - 1) ys in
     let keeps : Keeps g.R.Ord.cmp xs left = subst (λ l. Keeps g.R.Ord.cmp l left) part told.keeps in
     let shuffled : IsPermutation xs (x ∷ left) = subst (λ l. IsPermutation l (x ∷ left)) part told.shuffled in
     let first : (d : Entry g.row.R.Denot) → x ≡ get_or xs 0 d = λ d. told.value d ∙ ap (λ l. get_or l 0 d) part in
