@@ -9,7 +9,7 @@ pub struct Entry<R> {
     pub place: usize,
 }
 
-// How many of the caller's entries are live: so many from the first on, or all where there are fewer.
+// How many of the caller's entries are live: so many from the first on, or all where there are fewer. Each call is lent the entries, which stay in fixed memory of the caller's, so what its contract says of them names both.
 #[derive(Clone, Copy, Debug)]
 pub struct EvictionHeap {
     len: usize,
