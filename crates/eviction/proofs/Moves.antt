@@ -1,28 +1,23 @@
 -- What a heap's operations leave, before and after the entries are sifted.
-use Rattle.std.proofs.Common.{Option, MatchOption, slice_get, ◌≡◌, ℕ, zero, suc, ◌+◌, ◌-◌, ◌<◌, ◌≤◌, Bool, List, [], ◌∷◌, ◌++◌, length, get_or, take, drop, set, Ordering, sym, refl, ap, ◌∙◌, subst, arith, length-append, length-set, take-append-drop, drop_of_length-le, length-take-le, get_or-set_other, get_or-take, get_or-set_same, drop-set-lt}
+use Rattle.std.proofs.Common.{Option, MatchOption, slice_get, ◌≡◌, ℕ, zero, suc, ◌+◌, ◌-◌, ◌<◌, ◌≤◌, Bool, List, [], ◌∷◌, ◌++◌, length, get_or, take, drop, set, Ordering, sym, refl, ap, ◌∙◌, subst, arith, length-append, length-set, length-take, take-append-drop, drop_of_length-le, length-take-le, get_or-set_other, get_or-take, get_or-set_same, drop-set-lt}
 use lib.Seq.{set_split, take-append-le, take-set-le}
 use borrow.Rule.Slice.PartMut.{post_of}
+use Rattle.std.specs.List.{remove}
 use Rattle.std.specs.List.Sorted.{IsPermutation}
 use Rattle.std.specs.Cmp.{IsTotalOrder, IsStrictWeakOrder}
 use Rattle.std.specs.Slice.Heapsort.{IsHeapWithin}
 use Rattle.std.specs.BinaryHeap.Sift.{IsHeapWithHole}
-use Rattle.std.proofs.lemmas.List.Sorted.{IsPermutation-refl, IsPermutation-trans, IsPermutation-sym, IsPermutation-cons, IsPermutation-to_front, IsPermutation-swap}
-use Rattle.std.proofs.lemmas.List.Edits.{swap_is}
-use Rattle.std.proofs.lemmas.List.{get_or_default, get_or_append_left}
+use Rattle.std.proofs.lemmas.List.Sorted.{IsPermutation-remove, IsPermutation-swap_remove}
+use Rattle.std.proofs.lemmas.List.{get_or_default, get_or_append_left, take_min}
 use Rattle.eviction.specs.declared.heap.Entry.{Entry}
 use Rattle.eviction.specs.Heaps.{after, below, Keeps, Leads}
 use Rattle.eviction.specs.Sifts.{Rises, Mends}
 use Rattle.eviction.proofs.Sifting as sifts
 
 module _ {X : Type 0} where
-  front : (m : ℕ) (es : List X) → take (length (take m es)) es ≡ take m es
-  front zero es = refl
-  front (suc m) [] = refl
-  front (suc m) (x ∷ es) = ap (λ l. x ∷ l) (front m es)
-
   -- the live ones as the part that is lent
   pub part : (es : List X) (m n : ℕ) → n ≡ length (take m es) → take n es ≡ take m es
-  part es m n e = ap (λ k. take k es) e ∙ front m es
+  part es m n e = ap (λ k. take k es) (e ∙ length-take m es) ∙ take_min m es
 
   -- the first k of what the part came back as
   pub back : (es ys : List X) (k n : ℕ) → length ys ≡ n → k ≤ n → take k (ys ++ post_of 0 n es) ≡ take k ys
@@ -55,42 +50,20 @@ module _ {X : Type 0} where
   headed [] x lt e = absurd (omega arith)
   headed (y ∷ ys) x lt e = ap (λ z. z ∷ ys) (sym (e y))
 
-  -- one more at the end
-  pub put_shuffles : (xs : List X) (x : X) → IsPermutation (x ∷ xs) (xs ++ x ∷ [])
-  put_shuffles xs x = IsPermutation-sym (xs ++ x ∷ []) (x ∷ xs) (IsPermutation-to_front xs x)
-
   -- the last one comes to `at`
   pub out_shuffles : (xs : List X) (at k : ℕ) (r v : X) → at < length xs → k ≡ length xs - 1 → r ≡ get_or xs at r → v ≡ get_or xs k v → IsPermutation xs (r ∷ take k (set xs at v))
   out_shuffles xs at k r v lt is r-is v-is =
-      let q : k < length xs = omega arith in
-      let w = set xs at v in
-      let long : length w ≡ length xs = length-set xs at v in
-      let rest : drop (suc k) w ≡ [] = drop_of_length-le w {i = suc k} (omega arith) in
-      let v-is' : v ≡ get_or xs k r = v-is ∙ get_or_default xs k v r q in
-      let both : set w k r ≡ set (set xs at (get_or xs k r)) k (get_or xs at r) = λ i. set (set xs at (v-is' i)) k (r-is i) in
-      let is' : take k w ++ r ∷ [] ≡ _ = ap (λ (l : List X). take k w ++ r ∷ l) (sym rest) ∙ sym (set_split w k r (omega arith)) ∙ both ∙ swap_is xs at k r lt q in
-      IsPermutation-trans xs (take k w ++ r ∷ []) (r ∷ take k w) (IsPermutation-swap xs (take k w ++ r ∷ []) at k lt q is') (IsPermutation-to_front (take k w) r)
+      let v-is' : v ≡ get_or xs (length xs - 1) r = v-is ∙ get_or_default xs k v r (omega arith) ∙ ap (λ n. get_or xs n r) is in
+      subst (λ l. IsPermutation xs (r ∷ l)) (λ i. take (sym is i) (set xs at (sym v-is' i))) (IsPermutation-swap_remove xs at r lt r-is)
 
-  -- all but the element at `at`
-  abbrev pub others : List X → ℕ → List X
-  others xs at = take at xs ++ drop (suc at) xs
-
-  pub picked : (xs : List X) (at : ℕ) (d : X) → at < length xs → IsPermutation xs (get_or xs at d ∷ others xs at)
-  picked [] at d lt = absurd (omega arith)
-  picked (x ∷ xs) zero d lt = IsPermutation-refl (x ∷ xs)
-  picked (x ∷ xs) (suc at) d lt =
-      let r = get_or xs at d in
-      let rest = others xs at in
-      IsPermutation-trans (x ∷ xs) (x ∷ r ∷ rest) (r ∷ x ∷ rest) (IsPermutation-cons x xs (r ∷ rest) (picked xs at d (omega arith))) (IsPermutation-swap (x ∷ r ∷ rest) (r ∷ x ∷ rest) 0 1 (omega arith) (omega arith) refl)
-
-  -- and another in its place
-  pub placed : (xs : List X) (at : ℕ) (v : X) → at < length xs → IsPermutation (set xs at v) (v ∷ others xs at)
+  -- another in the place of the element at `at`
+  pub placed : (xs : List X) (at : ℕ) (v : X) → at < length xs → IsPermutation (set xs at v) (v ∷ remove xs at)
   placed xs at v lt =
       let w = set xs at v in
-      let here : get_or w at v ≡ v = get_or-set_same xs at v v lt in
+      let here : v ≡ get_or w at v = sym (get_or-set_same xs at v v lt) in
       let low : take at w ≡ take at xs = take-set-le at xs at v (omega arith) in
       let high : drop (suc at) w ≡ drop (suc at) xs = drop-set-lt (suc at) xs at v (omega arith) in
-      subst (IsPermutation w) (λ i. here i ∷ (low i ++ high i)) (picked w at v (omega (arith, length-set xs at v)))
+      subst (λ l. IsPermutation w (v ∷ l)) (λ i. low i ++ high i) (IsPermutation-remove w at v (omega (arith, length-set xs at v)) here)
 
   -- the element at j may be any
   gap : (lt : X → X → Bool) → IsStrictWeakOrder lt → (xs ys : List X) (j n m : ℕ) → n ≤ m → ((i : ℕ) (d : X) → i < n → (i ≡ j → ⊥) → get_or ys i d ≡ get_or xs i d) → IsHeapWithin lt xs 0 m → IsHeapWithHole lt ys j n

@@ -1,7 +1,7 @@
 use Rattle.std.proofs.Common.{◌≡◌, ◌+◌, ◌<◌, [], ◌∷◌, ◌++◌, length, take, set, sym, refl, ◌∙◌, subst, arith, length-append, length-take, length-take-le, take_all}
 use borrow.Rule.Slice.PartMut.{post_of}
 use Rattle.std.specs.List.Sorted.{IsPermutation}
-use Rattle.std.proofs.lemmas.List.Sorted.{IsPermutation-trans, length_permutation}
+use Rattle.std.proofs.lemmas.List.Sorted.{IsPermutation-trans, IsPermutation-sym, IsPermutation-to_front, length_permutation}
 use Rattle.std.proofs.lemmas.List.{take_more_set}
 use Rattle.eviction.specs.Heaps.{Keeps}
 use Rattle.eviction.specs.Sifts.{Rises}
@@ -30,5 +30,5 @@ returns g c =
     let is : take (n + 1) (ys ++ post_of 0 (n + 1) w) ≡ ys = moves.back w ys (n + 1) (n + 1) long (omega arith) ∙ take_all (n + 1) ys (omega arith) in
     record {
       order = subst (Keeps g.R.Ord.cmp xs) (sym is) (moves.put_keeps g.R.Ord.cmp xs ys x rises);
-      cases = (omega arith, subst (IsPermutation (x ∷ xs)) (sym is) (IsPermutation-trans (x ∷ xs) put ys (moves.put_shuffles xs x) shuffled));
+      cases = (omega arith, subst (IsPermutation (x ∷ xs)) (sym is) (IsPermutation-trans (x ∷ xs) put ys (IsPermutation-sym put (x ∷ xs) (IsPermutation-to_front xs x)) shuffled));
     }
