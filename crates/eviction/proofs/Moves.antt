@@ -1,6 +1,6 @@
 -- What a heap's operations leave, before and after the entries are sifted.
-use Rattle.std.proofs.Common.{Option, MatchOption, slice_get, ◌≡◌, ℕ, zero, suc, ◌+◌, ◌-◌, ◌<◌, ◌≤◌, Bool, List, [], ◌∷◌, ◌++◌, length, get_or, take, drop, set, Ordering, sym, refl, ap, ◌∙◌, subst, arith, length-append, length-set, length-take, take-append-drop, drop_of_length-le, length-take-le, get_or-set_other, get_or-take, get_or-set_same, drop-set-lt}
-use lib.Seq.{set_split, take-append-le, take-set-le}
+use Rattle.std.proofs.Common.{Option, MatchOption, slice_get, ◌≡◌, ℕ, zero, suc, ◌+◌, ◌-◌, ◌<◌, ◌≤◌, Bool, List, [], ◌∷◌, ◌++◌, length, get_or, take, drop, set, Ordering, sym, refl, ap, ◌∙◌, subst, arith, length-append, length-set, length-take, take-append-drop, length-take-le, get_or-set_other, get_or-take, get_or-set_same, drop-set-lt}
+use lib.Seq.{take-append-le, take-set-le}
 use borrow.Rule.Slice.PartMut.{post_of}
 use Rattle.std.specs.List.{remove}
 use Rattle.std.specs.List.Sorted.{IsPermutation}
