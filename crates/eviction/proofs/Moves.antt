@@ -1,5 +1,5 @@
 -- What a heap's operations leave, before and after the entries are sifted.
-use Rattle.std.proofs.Common.{Option, MatchOption, slice_get, ◌≡◌, ℕ, zero, suc, ◌+◌, ◌-◌, ◌<◌, ◌≤◌, Bool, List, [], ◌∷◌, ◌++◌, length, get_or, take, drop, set, Ordering, sym, refl, ap, ◌∙◌, subst, arith, length-append, length-set, length-take, take-append-drop, length-take-le, get_or-set_other, get_or-take, get_or-set_same, drop-set-lt}
+use Rattle.std.proofs.Common.{Option, MatchOption, slice_get, ◌≡◌, ℕ, zero, suc, ◌+◌, ◌-◌, ◌<◌, ◌≤◌, Bool, List, [], ◌∷◌, ◌++◌, length, get_or, take, drop, set, Ordering, sym, refl, ap, ◌∙◌, subst, arith, length-append, length-set, length-take, length-take-le, get_or-set_other, get_or-take, get_or-set_same, drop-set-lt}
 use lib.Seq.{take-append-le, take-set-le}
 use borrow.Rule.Slice.PartMut.{post_of}
 use Rattle.std.specs.List.{remove}
@@ -41,10 +41,6 @@ module _ {X : Type 0} where
   pub filled : (es ys : List X) (m n : ℕ) → n ≡ length (take m es) → length ys ≡ n → take m (ys ++ post_of 0 n es) ≡ ys
   filled es ys m n is e =
       ap (λ k. take m (ys ++ post_of 0 k es)) is ∙ fill m es ys (omega arith)
-
-  -- a part that came back as it was
-  pub unchanged : (es : List X) (n : ℕ) → take n es ++ post_of 0 n es ≡ es
-  unchanged es n = take-append-drop n es
 
   pub headed : (xs : List X) (x : X) → 0 < length xs → ((d : X) → x ≡ get_or xs 0 d) → xs ≡ x ∷ drop 1 xs
   headed [] x lt e = absurd (omega arith)

@@ -1,4 +1,4 @@
-use Rattle.std.proofs.Common.{◌≡◌, ◌+◌, ◌<◌, [], ◌∷◌, ◌++◌, length, take, set, sym, refl, ◌∙◌, subst, arith, length-append, length-take, length-take-le, take_all}
+use Rattle.std.proofs.Common.{◌≡◌, ◌+◌, ◌<◌, [], ◌∷◌, ◌++◌, length, take, set, sym, ◌∙◌, subst, arith, length-append, length-take-le, take_all}
 use borrow.Rule.Slice.PartMut.{post_of}
 use Rattle.std.specs.List.Sorted.{IsPermutation}
 use Rattle.std.proofs.lemmas.List.Sorted.{IsPermutation-trans, IsPermutation-sym, IsPermutation-to_front, length_permutation}
@@ -7,9 +7,6 @@ use Rattle.eviction.specs.Heaps.{Keeps}
 use Rattle.eviction.specs.Sifts.{Rises}
 use Rattle.eviction.proofs.Moves as moves
 use Rattle.eviction.proofs.heap.EvictionHeap.insert.Goals as goal
-
-pub returns-then-at-entries : goal.returns-then-at-entries
-returns-then-at-entries g c = record { order = λ h. h; cases = (omega (arith, length-take c.args.self.now.len c.args.entries.now), refl, refl) }
 
 pub returns : goal.returns
 returns g c =

@@ -1,21 +1,8 @@
-use Rattle.std.proofs.Common.{◌-◌, ◌∷◌, length, take, sym, refl, subst}
+use Rattle.std.proofs.Common.{◌-◌, ◌∷◌, length, take, sym, subst}
 use Rattle.std.specs.List.Sorted.{IsPermutation}
-use Rattle.eviction.specs.Heaps.{Keeps, Lacks}
+use Rattle.eviction.specs.Heaps.{Keeps}
 use Rattle.eviction.proofs.Moves as moves
 use Rattle.eviction.proofs.heap.EvictionHeap.remove.Goals as goal
-
-pub returns-in_err-at : goal.returns-in_err-at
-returns-in_err-at g c =
-    let es = c.args.entries.now in
-    let m = c.args.self.now.len in
-    let n = c.len-len.result in
-    let part = moves.part es m n c.len-len.ensures.live in
-    let same = moves.unchanged es n in
-    let lacks : Lacks (take m es) c.args.place = subst (λ l. Lacks l c.args.place) part c.in_err-at.ensures in
-    record {
-      order = subst (λ l. Keeps g.R.Ord.cmp (take m es) (take m l)) (sym same) (λ h. h);
-      cases = rw c.from_residual.ensures (lacks, refl {a = c.args.self.now}, same);
-    }
 
 pub returns : goal.returns
 returns g c =

@@ -3,24 +3,10 @@ use Rattle.std.specs.List.{remove}
 use Rattle.std.specs.List.Sorted.{IsPermutation}
 use Rattle.std.proofs.lemmas.List.Sorted.{IsPermutation-trans, IsPermutation-sym, IsPermutation-remove, length_permutation}
 use Rattle.eviction.specs.declared.heap.Entry.{Entry}
-use Rattle.eviction.specs.Heaps.{Keeps, Lacks}
+use Rattle.eviction.specs.Heaps.{Keeps}
 use Rattle.eviction.specs.Sifts.{Mends}
 use Rattle.eviction.proofs.Moves as moves
 use Rattle.eviction.proofs.heap.EvictionHeap.rerank.Goals as goal
-
-pub returns-in_err-at : goal.returns-in_err-at
-returns-in_err-at g c =
-    let es = c.args.entries.now in
-    let m = c.args.self.now.len in
-    let n = c.len-len.result in
-    let part = moves.part es m n c.len-len.ensures.live in
-    let same = moves.unchanged es n in
-    let lacks : Lacks (take m es) c.args.place = subst (λ l. Lacks l c.args.place) part c.in_err-at.ensures in
-    record {
-      heap = refl {a = c.args.self.now};
-      order = subst (λ l. Keeps g.R.Ord.cmp (take m es) (take m l)) (sym same) (λ h. h);
-      cases = rw c.from_residual.ensures (lacks, same);
-    }
 
 pub returns : goal.returns
 returns g c =

@@ -1,17 +1,10 @@
-use Rattle.std.proofs.Common.{◌≡◌, ◌-◌, ◌∷◌, ◌++◌, length, get_or, take, sym, refl, ap, ◌∙◌, subst, arith}
+use Rattle.std.proofs.Common.{◌≡◌, ◌-◌, ◌∷◌, ◌++◌, length, get_or, take, sym, ap, ◌∙◌, subst, arith}
 use borrow.Rule.Slice.PartMut.{post_of}
 use Rattle.std.specs.List.Sorted.{IsPermutation}
-use Rattle.std.proofs.lemmas.List.{nil_from_length}
 use Rattle.eviction.specs.declared.heap.Entry.{Entry}
 use Rattle.eviction.specs.Heaps.{Keeps}
 use Rattle.eviction.proofs.Moves as moves
 use Rattle.eviction.proofs.heap.EvictionHeap.take_least.Goals as goal
-
-pub returns-in_err-self : goal.returns-in_err-self
-returns-in_err-self g c = record {
-  order = λ h. h;
-  cases = rw c.from_residual.ensures (nil_from_length (take c.args.self.now.len c.args.entries.now) (omega arith), refl {a = c.args.self.now}, refl {a = c.args.entries.now});
-}
 
 pub returns : goal.returns
 returns g c =
