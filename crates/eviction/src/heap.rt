@@ -9,7 +9,7 @@ pub struct Entry<R> {
     pub place: usize,
 }
 
-// How many of the caller's entries are live: so many from the first on, or all where there are fewer. Each call is lent the entries, which stay in fixed memory of the caller's, so what its contract says of them names both.
+// How many of the caller's entries are live: so many from the first on, or all where there are fewer. The entries are fixed memory of the caller's, lent to each call, so that they are a heap is said in each contract (`Keeps`), and not by a fact of this type.
 #[derive(Clone, Copy, Debug)]
 pub struct EvictionHeap {
     len: usize,
