@@ -24,7 +24,7 @@ module _ {X : Type 0} where
   back es ys k n e le = take-append-le k ys (post_of 0 n es) (omega arith)
 
   -- a part that came back without its last
-  pub shorter : (es ys : List X) (n : ℕ) → n ≤ length es → length ys ≡ length (take n es) → take (n - 1) (ys ++ post_of 0 n es) ≡ take (length (take n es) - 1) ys
+  shorter : (es ys : List X) (n : ℕ) → n ≤ length es → length ys ≡ length (take n es) → take (n - 1) (ys ++ post_of 0 n es) ≡ take (length (take n es) - 1) ys
   shorter es ys n le e =
       let long : length (take n es) ≡ n = length-take-le n es (omega arith) in
       back es ys (n - 1) n (omega arith) (omega arith) ∙ ap (λ k. take (k - 1) ys) (sym long)
@@ -105,6 +105,18 @@ module _ {K : Type 0} (R : K → K → Ordering) where
       let w = take k (set xs at v) in
       let long : length w ≡ k = length-take-le k (set xs at v) (omega (arith, length-set xs at v)) in
       agrees (after (below R)) xs w (length w) (length xs) (omega arith) (λ i d a. other xs at k v i d (omega arith) (omega arith)) h
+
+  -- one is taken out of the live ones, which are the first n
+  pub taken : (es ys : List (Entry K)) (m n k : ℕ) (x : Entry K) → n ≡ length (take m es) → n ≤ length es → k ≡ n - 1 → length ys ≡ length (take n es)
+      → Keeps R (take n es) (take (length (take n es) - 1) ys) → IsPermutation (take n es) (x ∷ take (length (take n es) - 1) ys)
+      → Keeps R (take m es) (take k (ys ++ post_of 0 n es)) × IsPermutation (take m es) (x ∷ take k (ys ++ post_of 0 n es))
+  taken es ys m n k x is le less long keeps shuffled =
+      let whole = ys ++ post_of 0 n es in
+      let p = part es m n is in
+      let s : take k whole ≡ take (length (take n es) - 1) ys = ap (λ j. take j whole) less ∙ shorter es ys n le long in (
+        subst (λ l. Keeps R l (take k whole)) p (subst (Keeps R (take n es)) (sym s) keeps),
+        subst (λ l. IsPermutation l (x ∷ take k whole)) p (subst (λ l. IsPermutation (take n es) (x ∷ l)) (sym s) shuffled),
+      )
 
   -- the first is least
   pub leads : IsTotalOrder R → (xs : List (Entry K)) (x : Entry K) → ((d : Entry K) → x ≡ get_or xs 0 d) → Leads R x xs
