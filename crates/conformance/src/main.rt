@@ -7,43 +7,41 @@ use anyhow::anyhow;
 use digest::{Digest, Fnv, Md5};
 use hexadecimal::hex;
 use std::alloc::{AllocError, Global};
-use vectors::{fnv_vectors, md5_vectors};
+use vectors::{FNV_VECTORS, MD5_VECTORS, Vector};
 
-// Words as text in hexadecimal, the highest octet of each first.
-fn words_text(heap: Global, words: &[u32]) -> Result<String, AllocError> {
-    let mut octets = Vec::new(heap);
-    for word in words {
-        octets.extend_from_slice(&word.to_be_bytes())?;
-    }
+// The first `count` words as text in hexadecimal, the highest octet of each first.
+fn words_text(heap: Global, words: &[u32], count: usize) -> Result<String, AllocError> {
+    let octets: Vec<u8> = words
+        .iter()
+        .take(count)
+        .flat_map(|word| word.to_be_bytes())
+        .collect(heap)?;
     hex(heap, octets.as_slice())
 }
 
-// Prints one vector, and answers whether it came out as published.
-fn report(
+// Prints each vector by the first `count` words of its digest, and answers whether all came out as published.
+fn report<D: Digest>(
     rt: &HostRuntime,
-    digest: &str,
-    message: &str,
-    found: &String,
-    published: &str,
+    name: &str,
+    digest: &D,
+    count: usize,
+    vectors: &[Vector],
 ) -> anyhow::Result<bool> {
-    let agrees = found.as_str() == published;
-    let verdict = if agrees { "agrees" } else { "differs" };
-    println!(rt; "{digest} {message:?} {found} {verdict}")?;
-    Ok(agrees)
+    let mut all = true;
+    for (message, published) in vectors {
+        let found = words_text(rt.alloc(), &digest.words(message.as_bytes()), count)?;
+        let agrees = found.as_str() == *published;
+        let verdict = if agrees { "agrees" } else { "differs" };
+        println!(rt; "{name} {message:?} {found} {verdict}")?;
+        all &= agrees;
+    }
+    Ok(all)
 }
 
 fn run(rt: &HostRuntime) -> anyhow::Result<()> {
-    let heap = rt.alloc();
-    let mut all = true;
-    for (message, published) in md5_vectors() {
-        let found = words_text(heap, &Md5.words(message.as_bytes()))?;
-        all &= report(rt, "md5", message, &found, published)?;
-    }
-    for (message, published) in fnv_vectors() {
-        let found = words_text(heap, &Fnv.words(message.as_bytes())[0..2])?;
-        all &= report(rt, "fnv1a", message, &found, published)?;
-    }
-    if !all {
+    let md5 = report(rt, "md5", &Md5, 4, &MD5_VECTORS)?;
+    let fnv = report(rt, "fnv1a", &Fnv, 2, &FNV_VECTORS)?;
+    if !(md5 && fnv) {
         return Err(anyhow!("a vector differs from what is published"));
     }
     Ok(())

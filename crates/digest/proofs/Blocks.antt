@@ -1,6 +1,8 @@
 -- The blocks of a message, cut in two, and of a message that goes on.
-use Rattle.std.proofs.Common.{◌≡◌, ℕ, zero, suc, ◌+◌, ◌*◌, ◌/◌, ◌≤◌, List, ◌++◌, length, take, drop, sym, refl, ap, ◌∙◌, add-zero, add-suc, mul-add, add-one, arith, length-append, length-drop}
+use Rattle.std.proofs.Common.{◌≡◌, ℕ, zero, suc, ◌+◌, ◌*◌, ◌/◌, ◌≤◌, List, ◌++◌, length, take, drop, sym, refl, ap, ◌∙◌, add-zero, add-suc, mul-add, arith, length-append, length-drop}
 use Rattle.std.proofs.lemmas.List.{drop-drop, drop-append-le, take-append-le}
+use Rattle.std.specs.List.{fold}
+use Rattle.std.specs.Simd.{first_chunks}
 use Rattle.digest.specs.declared.rfc1321.rounds.Registers.{Registers}
 use Rattle.digest.specs.Md5.{block, blocks}
 
@@ -42,11 +44,9 @@ blocks_rest m t n r h =
     ∙ ap (blocks (drop (64 * n) (m ++ t)) j) (blocks_front m t n r h)
     ∙ ap (λ p. blocks p j (blocks m n r)) (drop-append-le (64 * n) m t h)
 
--- one block more
-pub blocks_more : (p : List ℕ) (n w : ℕ) (s : Registers) {r q : Registers} → w ≡ 64
-    → r ≡ blocks p n s → q ≡ block (take w (drop (64 * n) p)) r → q ≡ blocks p (n + 1) s
-blocks_more p n w s {r} {q} k e h =
-    h
-    ∙ ap (λ z. block (take z (drop (64 * n) p)) r) k
-    ∙ ap (block (take 64 (drop (64 * n) p))) e
-    ∙ sym (ap (λ i. blocks p i s) (add-one n))
+-- the first n blocks of p, one after another
+pub fold_blocks : (n : ℕ) (p : List ℕ) (r : Registers) → fold (λ r x. block x r) r (first_chunks 64 n p) ≡ blocks p n r
+fold_blocks zero p r = refl
+fold_blocks (suc n) p r =
+    let e : 1 + n ≡ suc n = omega arith in
+    fold_blocks n (drop 64 p) (block (take 64 p) r) ∙ sym (blocks_add p 1 n r) ∙ ap (λ k. blocks p k r) e

@@ -1,4 +1,3 @@
 pub mod Blocks
 pub mod Padding
-pub mod Steps
 pub mod Vectors

@@ -1,10 +1,10 @@
--- The array that holds the end of a padded message, and the order of octets.
-use Rattle.std.proofs.Common.{◌≡◌, ℕ, suc, ◌+◌, ◌-◌, ◌*◌, ◌/◌, ◌%◌, ◌≤◌, List, [], ◌∷◌, ◌++◌, length, take, drop, set, replicate, sym, refl, ap, ◌∙◌, append_assoc, zero-add, arith, length-append}
+-- The array that holds the end of a padded message.
+use Rattle.std.proofs.Common.{◌≡◌, ℕ, suc, ◌+◌, ◌-◌, ◌/◌, ◌%◌, ◌≤◌, List, [], ◌∷◌, ◌++◌, length, take, drop, set, replicate, sym, refl, ap, ◌∙◌, append_assoc, arith, length-append}
 use native.Mathlib.Nat.{div-div-eq-div-mul}
 use lib.ListN.{length-replicate}
 use lib.Seq.{take-append-add}
 use Rattle.std.proofs.lemmas.List.{drop-replicate, take-replicate, set_at, take_at}
-use Rattle.digest.specs.Md5.{octets, big_word}
+use Rattle.digest.specs.Md5.{octets}
 
 -- the octets of a number of 64 bits, as the code has them
 pub octets_8 : (x : ℕ)
@@ -13,11 +13,10 @@ octets_8 x = sym (simp div-div-eq-div-mul)
 
 -- the array after its three writes: the octets r, 128, and o in the last eight places below e
 module _ (r o : List ℕ) (z e : ℕ) (long : length o ≡ 8) (is : e ≡ length r + 9 + z) (fits : e ≤ 128) where
-  marked : set (r ++ drop (0 + length r) (replicate 128 0)) (length r) 128 ≡ r ++ 128 ∷ replicate (127 - length r) 0
+  marked : set (r ++ drop (length r) (replicate 128 0)) (length r) 128 ≡ r ++ 128 ∷ replicate (127 - length r) 0
   marked =
       let k : 128 - length r ≡ suc (127 - length r) = omega arith in
-      ap (λ n. set (r ++ drop n (replicate 128 0)) (length r) 128) (zero-add (length r))
-      ∙ ap (λ ys. set (r ++ ys) (length r) 128) (drop-replicate (length r) 128 0 ∙ ap (λ n. replicate n 0) k)
+      ap (λ ys. set (r ++ ys) (length r) 128) (drop-replicate (length r) 128 0 ∙ ap (λ n. replicate n 0) k)
       ∙ set_at r 0 (replicate (127 - length r) 0) 128 (length r) refl
 
   front : take (e - 8) (r ++ 128 ∷ replicate (127 - length r) 0) ≡ r ++ 128 ∷ replicate z 0
@@ -27,24 +26,10 @@ module _ (r o : List ℕ) (z e : ℕ) (long : length o ≡ 8) (is : e ≡ length
       ∙ take-append-add r (128 ∷ replicate (127 - length r) 0) (suc z)
       ∙ ap (λ ys. r ++ 128 ∷ ys) (take-replicate z (127 - length r) 0 (omega arith))
 
-  front_length : length (r ++ 128 ∷ replicate z 0) ≡ e - 8
-  front_length =
-      let a = length-append r (128 ∷ replicate z 0) in
-      let b = length-replicate z (suc 0 - 1) in
-      omega arith
-
-  pub written : (u : List ℕ) → u ≡ set (r ++ drop (0 + length r) (replicate 128 0)) (length r) 128
-      → take e (take (e - 8) u ++ (o ++ drop (e - 8 + length o) u)) ≡ r ++ (128 ∷ (replicate z 0 ++ o))
-  written u h =
-      let a : take (e - 8) u ≡ r ++ 128 ∷ replicate z 0 = ap (take (e - 8)) (h ∙ marked) ∙ front in
-      let w = drop (e - 8 + length o) u in
-      let l : length ((r ++ 128 ∷ replicate z 0) ++ o) ≡ e =
-      length-append (r ++ 128 ∷ replicate z 0) o ∙ ap (λ n. n + length o) front_length ∙ omega arith in
-      ap (λ f. take e (f ++ (o ++ w))) a
+  pub written : (w : List ℕ) → take e (take (e - 8) (set (r ++ drop (length r) (replicate 128 0)) (length r) 128) ++ (o ++ w)) ≡ r ++ (128 ∷ (replicate z 0 ++ o))
+  written w =
+      let k : length ((r ++ 128 ∷ replicate z 0) ++ o) ≡ e = simp (length-append, length-replicate) (omega arith) in
+      ap (λ f. take e (f ++ (o ++ w))) (ap (take (e - 8)) marked ∙ front)
       ∙ ap (take e) (sym (append_assoc (r ++ 128 ∷ replicate z 0) o w))
-      ∙ take_at ((r ++ 128 ∷ replicate z 0) ++ o) w e l
+      ∙ take_at ((r ++ 128 ∷ replicate z 0) ++ o) w e k
       ∙ append_assoc r (128 ∷ replicate z 0) o
-
--- a word whose octets are turned about
-pub swapped : (a : ℕ) → a % 256 * 16777216 + a / 256 % 256 * 65536 + a / 65536 % 256 * 256 + a / 16777216 % 256 ≡ big_word (octets 4 a) 0
-swapped a = sym (simp div-div-eq-div-mul)

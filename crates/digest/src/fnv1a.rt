@@ -1,6 +1,6 @@
 // FNV-1a of 64 bits, of a name and of the name followed by the octet 01.
-ghost use Rattle.std.specs.Prelude.{◌≡◌, ◌/◌, ◌%◌, ◌^◌, refl};
-ghost use Rattle.digest.specs.Fnv.{hashed, fnv_words};
+ghost use Rattle.std.specs.Prelude.{◌≡◌, refl};
+ghost use Rattle.digest.specs.Fnv.{hashed, halves, fnv_words};
 ghost use Rattle.digest.specs.Narrow.{fnv_narrow};
 
 use crate::Digest;
@@ -9,7 +9,7 @@ const OFFSET_BASIS: u64 = 0xcbf29ce484222325;
 
 const PRIME: u64 = 0x100000001b3;
 
-#[derive(Clone, Copy)]
+#[derive(Clone, Copy, PartialEq, Eq, Debug)]
 pub struct Fnv;
 
 // The hash after one more octet.
@@ -19,18 +19,11 @@ fn hash(h: u64, octet: u8) -> u64
     (h ^ octet as u64).wrapping_mul(PRIME)
 }
 
-// The high half.
-fn high(h: u64) -> u32
-    ensures { result ≡ h / 2 ^ 32 }
+// The high half, and then the low one.
+fn halves(h: u64) -> [u32; 2]
+    ensures { result ≡ halves h }
 {
-    (h / 0x1_0000_0000) as u32
-}
-
-// The low half.
-fn low(h: u64) -> u32
-    ensures { result ≡ h % 2 ^ 32 }
-{
-    (h % 0x1_0000_0000) as u32
+    [(h >> 32) as u32, (h & 0xffff_ffff) as u32]
 }
 
 impl Digest for Fnv {
@@ -41,11 +34,9 @@ impl Digest for Fnv {
     ghost narrow = { fnv_narrow };
 
     fn words(&self, name: &[u8]) -> [u32; 4] {
-        let mut h = OFFSET_BASIS;
-        for x in name {
-            h = hash(h, *x);
-        }
-        let k = hash(h, 1);
-        [high(h), low(h), high(k), low(k)]
+        let h = name.iter().fold(OFFSET_BASIS, |h, octet| hash(h, *octet));
+        let [a, b] = halves(h);
+        let [c, d] = halves(hash(h, 1));
+        [a, b, c, d]
     }
 }

@@ -1,10 +1,9 @@
 // Digests of names: four words of 32 bits, by a function of the name's octets alone.
 #![tactic(auto)]
 
-ghost use Rattle.std.specs.Prelude.{◌≡◌, ℕ, ◌^◌, ◌<◌, List, length};
+ghost use Rattle.std.specs.Prelude.{◌≡◌, ℕ, ◌^◌, ◌<◌, List, length, slice_index};
 ghost use Rattle.std.specs.List.{AllByRecursion};
 
-pub mod exports;
 mod fnv1a;
 mod rfc1321;
 #[cfg(test)]
@@ -26,4 +25,11 @@ pub trait Digest {
 
     // Each has 32 bits.
     ghost narrow: { (name : List ℕ) → AllByRecursion (λ w. w < 2 ^ 32) (words name) };
+}
+
+// A word of a name's digest by its number, and 0 past the four: for callers that know no trait.
+pub fn word_of<D: Digest>(digest: &D, name: &[u8], number: usize) -> u32
+    ensures { result ≡ slice_index (D.words name.now) number }
+{
+    digest.words(name).get(number).copied().unwrap_or(0)
 }

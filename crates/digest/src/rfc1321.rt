@@ -1,14 +1,14 @@
 // MD5, after RFC 1321.
-ghost use Rattle.std.specs.Prelude.{◌≡◌, ◌+◌, ◌*◌, ◌/◌, ◌%◌, ◌≤◌, ◌++◌, length, take, drop, refl};
-ghost use Rattle.digest.specs.Md5.{zeros, appended, sines, blocks, md5_words};
+ghost use Rattle.std.specs.Prelude.{◌≡◌, ◌+◌, ◌%◌, ◌++◌, fold, length, replicate, refl};
+ghost use Rattle.digest.specs.Md5.{zeros, appended, block, md5_words};
 ghost use Rattle.digest.specs.Narrow.{md5_narrow};
 
 mod rounds;
 
 use crate::Digest;
-use rounds::{Block, Registers, SINES};
+use rounds::Registers;
 
-#[derive(Clone, Copy)]
+#[derive(Clone, Copy, PartialEq, Eq, Debug)]
 pub struct Md5;
 
 // The buffer before the first block.
@@ -19,27 +19,11 @@ const INITIAL: Registers = Registers {
     d: 0x10325476,
 };
 
-// The end of a padded message: the first `len` octets.
-#[derive(Drop)]
-struct Padded {
-    octets: [u8; 128],
-    len: usize,
-    ghost fits: { len ≤ 128 },
-}
-
-// The registers after the whole blocks of some octets, from `r` on.
-fn process(octets: &[u8], table: &[u32], mut r: Registers) -> Registers
-    requires { table.now ≡ sines }
-    ensures { result ≡ blocks octets.now (length octets.now / 64) r }
+// The registers after some blocks, from `r` on.
+fn process(blocks: &[[u8; 64]], r: Registers) -> Registers
+    ensures { result ≡ fold (λ r x. block x r) r blocks.now }
 {
-    for n in 0..octets.len() / 64 {
-        let block = Block {
-            octets: &octets[64 * n..64 * n + 64],
-            table,
-        };
-        r = block.compress(r);
-    }
-    r
+    blocks.iter().fold(r, |r, x| r.compress(x))
 }
 
 // How many octets follow the whole blocks of a message of `len` octets, once it is padded.
@@ -49,29 +33,17 @@ fn padded_len(len: usize) -> usize
     if len % 64 < 56 { 64 } else { 128 }
 }
 
-// Copies `s` into `t` from place `at` on.
-fn put(t: &mut [u8], at: usize, s: &[u8])
-    requires { at + length s.now ≤ length t.old }
-    ensures { t.new ≡ take at t.old ++ (s.now ++ drop (at + length s.now) t.old) }
+// What follows the whole blocks of a message of `len` octets, padded: its last octets `rest`, and what is appended, written into zeros.
+fn pad<'b>(rest: &[u8], len: usize, buffer: &'b mut [u8; 128]) -> &'b [u8]
+    requires short { length rest.now ≡ len % 64 }
+    requires blank { buffer.old ≡ replicate 128 0 }
+    ensures { result.now ≡ rest.now ++ appended len }
 {
-    t[at..at + s.len()].copy_from_slice(s);
-}
-
-// What follows the whole blocks of a message, padded.
-fn pad(message: &[u8]) -> Padded
-    ensures { take result.len result.octets ≡ drop (64 * (length message.now / 64)) message.now ++ appended (length message.now) }
-{
-    let len = message.len();
-    let rest = &message[64 * (len / 64)..];
     let end = padded_len(len);
-    let mut t = [0; 128];
-    put(&mut t, 0, rest);
-    t[rest.len()] = 0x80;
-    put(&mut t, end - 8, &len.wrapping_mul(8).to_le_bytes());
-    Padded {
-        octets: t,
-        len: end,
-    }
+    buffer[..rest.len()].copy_from_slice(rest);
+    buffer[rest.len()] = 0x80;
+    buffer[end - 8..end].copy_from_slice(&len.wrapping_mul(8).to_le_bytes());
+    &buffer[..end]
 }
 
 impl Digest for Md5 {
@@ -82,14 +54,11 @@ impl Digest for Md5 {
     ghost narrow = { md5_narrow };
 
     fn words(&self, name: &[u8]) -> [u32; 4] {
-        let r = process(name, &SINES, INITIAL);
-        let end = pad(name);
-        let r = process(&end.octets[..end.len], &SINES, r);
-        [
-            r.a.swap_bytes(),
-            r.b.swap_bytes(),
-            r.c.swap_bytes(),
-            r.d.swap_bytes(),
-        ]
+        let (blocks, rest) = name.as_chunks();
+        let r = process(blocks, INITIAL);
+        let mut buffer = [0; 128];
+        let (blocks, _) = pad(rest, name.len(), &mut buffer).as_chunks();
+        let r = process(blocks, r);
+        r.words()
     }
 }

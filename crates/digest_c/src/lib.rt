@@ -5,14 +5,14 @@ ghost use Rattle.std.specs.Prelude.{◌≡◌, slice_index};
 ghost use Rattle.digest.specs.Fnv.{fnv_words};
 ghost use Rattle.digest.specs.Md5.{md5_words};
 
-use digest::exports;
+use digest::{Fnv, Md5, word_of};
 
 // A word of the MD5 digest, and 0 past the four.
 #[unsafe(no_mangle)]
 pub extern "C" fn digest_md5(name: &[u8], number: usize) -> u32
     ensures { result ≡ slice_index (md5_words name.now) number }
 {
-    exports::digest_md5(name, number)
+    word_of(&Md5, name, number)
 }
 
 // A word of the FNV-1a digest, and 0 past the four.
@@ -20,5 +20,5 @@ pub extern "C" fn digest_md5(name: &[u8], number: usize) -> u32
 pub extern "C" fn digest_fnv(name: &[u8], number: usize) -> u32
     ensures { result ≡ slice_index (fnv_words name.now) number }
 {
-    exports::digest_fnv(name, number)
+    word_of(&Fnv, name, number)
 }

@@ -10,7 +10,7 @@ module _ {K : Type 0} (R : K → K → Ordering) (before : K → K → Bool) (la
   into xs h = λ p k d lo a b f. law.1 (get_or xs k d).rank (get_or xs p d).rank ∙ h p k d lo a b f
 
   pub kept : (xs ys : List (Entry K)) → Keeps R xs ys → Heaped before xs → Heaped before ys
-  kept xs ys keeps h = λ p k d lo a b f. sym (law.1 (get_or ys k d).rank (get_or ys p d).rank) ∙ keeps law.0 (into xs h) p k d lo a b f
+  kept xs ys keeps h = λ p k d lo a b f. sym (law.1 (get_or ys k d).rank (get_or ys p d).rank) ∙ keeps (into xs h) p k d lo a b f
 
   pub least : (x : Entry K) (xs : List (Entry K)) → Leads R x xs → Heaped before xs → Least before x xs
-  least x xs leads h = λ i d lt. sym (law.1 (get_or xs i d).rank x.rank) ∙ leads law.0 (into xs h) i d lt
+  least x xs leads h = λ i d lt. sym (law.1 (get_or xs i d).rank x.rank) ∙ leads (into xs h) i d lt

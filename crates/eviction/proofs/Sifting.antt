@@ -1,10 +1,11 @@
 -- What each step of a sift keeps, over any test of an order.
 use Rattle.std.proofs.Common.{◌≡◌, ℕ, zero, suc, ◌+◌, ◌-◌, ◌*◌, ◌/◌, ◌<◌, ◌≤◌, Bool, true, false, ◌⊎◌, List, length, get_or, Ordering, sym, refl, ap, ◌∙◌, subst, inl, inr, arith}
+use Rattle.std.specs.Ordering.{on, flip_args}
 use Rattle.std.specs.Cmp.{IsTotalOrder, on_total, back_total, IsStrictWeakOrder}
 use Rattle.std.specs.Slice.Heapsort.{IsHeapWithin, IsNotBelowChildren}
-use Rattle.std.specs.BinaryHeap.Sift.{IsHeapWithHole}
+use Rattle.std.specs.BinaryHeap.Sift.{IsHeapWithHole, SiftsUp}
 use Rattle.std.proofs.Permutation.{which}
-use Rattle.std.proofs.HeapSift as sifts
+use Rattle.std.proofs.HeapSift as heaps
 use Rattle.eviction.specs.declared.heap.Entry.{Entry}
 use Rattle.eviction.specs.Heaps.{after, below}
 use Rattle.eviction.specs.Sifts.{Over, Tells, Best, Rises, Sinks, Mends}
@@ -44,24 +45,6 @@ module _ {X : Type 0} (lt : X → X → Bool) where
     under : IsStrictWeakOrder lt → ((d : X) → lt (get_or xs j d) (get_or xs c d) ≡ true) → Over lt ys c
     under o t = λ p d a b. let e : p ≡ j = omega arith in by _ _ _ _ (ap (λ m. get_or ys m d) e ∙ s.0 d) (s.1 d) (o.one_way _ _ (t d))
 
-    up : IsStrictWeakOrder lt → ((d : X) → lt (get_or xs j d) (get_or xs c d) ≡ true) → IsHeapWithHole lt xs c n → IsHeapWithHole lt ys j n × IsNotBelowChildren lt ys j j n
-    up o t h = (
-      (
-        λ p k d a b f u v. cases (which p c)
-            (λ e. by _ _ _ _ (ap (λ m. get_or ys m d) e ∙ s.1 d) (s.2 k d v (omega arith)) (h.1 j k d from to (omega arith) (omega arith) f))
-            (λ w. let z : k ≡ c → ⊥ = omega arith in by _ _ _ _ (s.2 p d u w) (s.2 k d v z) (h.0 p k d a b f w z)),
-        λ p k d a b f g i.
-            let over = h.0 p j d a b (omega arith) (omega arith) (omega arith) in
-            let same = s.2 p d (omega arith) (omega arith) in
-            cases (which k c)
-            (λ e. by _ _ _ _ same (ap (λ m. get_or ys m d) e ∙ s.1 d) over)
-            (λ w. by _ _ _ _ same (s.2 k d (omega arith) w) (o.chain _ _ _ over (h.0 j k d f g i (omega arith) w))),
-      ),
-      λ k d a b f. cases (which k c)
-          (λ e. by _ _ _ _ (s.0 d) (ap (λ m. get_or ys m d) e ∙ s.1 d) (o.one_way _ _ (t d)))
-          (λ w. by _ _ _ _ (s.0 d) (s.2 k d (omega arith) w) (o.chain _ _ _ (o.one_way _ _ (t d)) (h.0 j k d a b f (omega arith) w))),
-    )
-
   module _ (o : IsStrictWeakOrder lt) where
     never : (x : X) (b : Bool) → lt x x ≡ b → lt x x ≡ false
     never x true e = o.one_way x x e
@@ -97,76 +80,66 @@ module _ {X : Type 0} (lt : X → X → Bool) where
     above xs j n z t h = λ k d a b f. o.chain _ _ _ (o.one_way _ _ (t d)) (h.1 ((j - 1) / 2) k d (omega arith) (omega arith) a b f)
 
 -- the order of the entries that the test of a heap is of: that of their ranks, back to front
+abbrev pub back : {K : Type 0} → (K → K → Ordering) → Entry K → Entry K → Ordering
+back R = on (λ e. e.rank) (flip_args R)
+
+pub back_order : {K : Type 0} {R : K → K → Ordering} → IsTotalOrder R → IsTotalOrder (back R)
+back_order {K} o = on_total (λ (e : Entry K). e.rank) (back_total o)
+
 pub ranks : {K : Type 0} {R : K → K → Ordering} → IsTotalOrder R → IsStrictWeakOrder (after (below R))
-ranks {K} o = sifts.ranks (on_total (λ (e : Entry K). e.rank) (back_total o))
+ranks o = heaps.ranks (back_order o)
 
 module _ {K : Type 0} (R : K → K → Ordering) where
-  pub only_child : (xs : List (Entry K)) (j c : ℕ) → c ≡ j * 2 + 1 → length xs ≤ c + 1 → Best R xs j c
-  unfolding Best
-  only_child xs j c e l = λ o. only (after (below R)) (ranks o) xs j c (length xs) e l
-
-  pub left_child : (xs : List (Entry K)) (j c : ℕ) → c ≡ j * 2 + 1 → Tells R xs (c + 1) c false → Best R xs j c
-  unfolding Best
-  left_child xs j c e t = λ o. first (after (below R)) (ranks o) xs j c (length xs) e (t o)
-
-  pub right_child : (xs : List (Entry K)) (j c : ℕ) → c ≡ j * 2 + 1 → Tells R xs (c + 1) c true → Best R xs j (c + 1)
-  unfolding Best
-  right_child xs j c e t = λ o. second (after (below R)) (ranks o) xs j c (length xs) e (t o)
-
-  -- `sift_up`: what began at j₀ in xs is at j in ys
-  pub Rising : List (Entry K) → ℕ → List (Entry K) → ℕ → Type 0
-  Rising xs j₀ ys j = IsTotalOrder R → IsHeapWithHole (after (below R)) xs j₀ (length xs) × IsNotBelowChildren (after (below R)) xs j₀ j₀ (length xs) → IsHeapWithHole (after (below R)) ys j (length ys) × IsNotBelowChildren (after (below R)) ys j j (length ys)
-
-  pub rise_begins : (xs : List (Entry K)) (j : ℕ) → Rising xs j xs j
-  unfolding Rising
-  rise_begins xs j = λ o h. h
-
-  pub rise_steps : (xs ys zs : List (Entry K)) (j₀ j : ℕ) → 0 < j → j < length ys → length zs ≡ length ys → Traded ys zs ((j - 1) / 2) j → Tells R ys j ((j - 1) / 2) true → Rising xs j₀ ys j → Rising xs j₀ zs ((j - 1) / 2)
-  unfolding Rising
-  rise_steps xs ys zs j₀ j z long same s t was = λ o h.
-      let r = up (after (below R)) ys zs ((j - 1) / 2) j (length ys) (omega arith) (omega arith) long s (ranks o) (t o) (was o h).0 in
-      subst (λ n. IsHeapWithHole (after (below R)) zs ((j - 1) / 2) n × IsNotBelowChildren (after (below R)) zs ((j - 1) / 2) ((j - 1) / 2) n) (sym same) r
-
-  pub rise_tops : (xs ys : List (Entry K)) (j₀ j : ℕ) → j ≡ 0 → Rising xs j₀ ys j → Rises R xs j₀ ys
-  unfolding Rising Rises
-  rise_tops xs ys j₀ j z was = λ o h. closes (after (below R)) ys j (length ys) (λ k d a b. absurd (omega arith)) (was o h).0 (was o h).1
-
-  pub rise_rests : (xs ys : List (Entry K)) (j₀ j : ℕ) → Tells R ys j ((j - 1) / 2) false → Rising xs j₀ ys j → Rises R xs j₀ ys
-  unfolding Rising Rises
-  rise_rests xs ys j₀ j t was = λ o h. closes (after (below R)) ys j (length ys) (over_by (after (below R)) (ranks o) ys j (t o)) (was o h).0 (was o h).1
+  -- `sift_up`, as the library says it of the first n entries
+  pub risen : (xs ys : List (Entry K)) (j : ℕ) → j < length xs → length ys ≡ length xs → SiftsUp (back R) xs j ys → Rises R xs j ys
+  unfolding Rises SiftsUp
+  risen xs ys j long same rises = λ h. subst (IsHeapWithin (after (below R)) ys 0) (sym same) (rises (length xs) long h)
 
   -- `sift_down`
   pub Sinking : List (Entry K) → ℕ → List (Entry K) → ℕ → Type 0
-  Sinking xs j₀ ys j = IsTotalOrder R → IsHeapWithHole (after (below R)) xs j₀ (length xs) × Over (after (below R)) xs j₀ → IsHeapWithHole (after (below R)) ys j (length ys) × Over (after (below R)) ys j
+  Sinking xs j₀ ys j = IsHeapWithHole (after (below R)) xs j₀ (length xs) × Over (after (below R)) xs j₀ → IsHeapWithHole (after (below R)) ys j (length ys) × Over (after (below R)) ys j
 
   pub sink_begins : (xs : List (Entry K)) (j : ℕ) → Sinking xs j xs j
   unfolding Sinking
-  sink_begins xs j = λ o h. h
-
-  pub sink_steps : (xs ys zs : List (Entry K)) (j₀ j c : ℕ) → j * 2 + 1 ≤ c → c ≤ j * 2 + 2 → c < length ys → length zs ≡ length ys → Traded ys zs j c → Best R ys j c → Tells R ys c j true → Sinking xs j₀ ys j → Sinking xs j₀ zs c
-  unfolding Sinking Best
-  sink_steps xs ys zs j₀ j c from to in' same s best t was = λ o h. (
-    subst (IsHeapWithHole (after (below R)) zs c) (sym same) (down (after (below R)) ys zs j c (length ys) from to in' s (best o) (was o h).0),
-    under (after (below R)) ys zs j c (length ys) from to in' s (ranks o) (t o),
-  )
-
-  pub sink_rests : (xs ys : List (Entry K)) (j₀ j c : ℕ) → Best R ys j c → Tells R ys c j false → Sinking xs j₀ ys j → Sinks R xs j₀ ys
-  unfolding Sinking Sinks Best
-  sink_rests xs ys j₀ j c best t was = λ o h. closes (after (below R)) ys j (length ys) (was o h).1 (was o h).0 (through (after (below R)) (ranks o) ys j c (length ys) (t o) (best o))
+  sink_begins xs j = λ h. h
 
   pub sink_ends : (xs ys : List (Entry K)) (j₀ j : ℕ) → length ys / 2 ≤ j → Sinking xs j₀ ys j → Sinks R xs j₀ ys
   unfolding Sinking Sinks
-  sink_ends xs ys j₀ j leaf was = λ o h. closes (after (below R)) ys j (length ys) (was o h).1 (was o h).0 (λ k d a b f. absurd (omega arith))
+  sink_ends xs ys j₀ j leaf was = λ h. closes (after (below R)) ys j (length ys) (was h).1 (was h).0 (λ k d a b f. absurd (omega arith))
 
   -- `mend`
-  pub mend_up : (xs ys : List (Entry K)) (j : ℕ) → 0 < j → j < length xs → Tells R xs j ((j - 1) / 2) true → Rises R xs j ys → Mends R xs j ys
-  unfolding Rises Mends
-  mend_up xs ys j z in' t rises = λ o h. rises o (h, above (after (below R)) (ranks o) xs j (length xs) z (t o) h)
-
   pub mend_top : (xs ys : List (Entry K)) (j : ℕ) → j ≡ 0 → Sinks R xs j ys → Mends R xs j ys
   unfolding Sinks Mends
-  mend_top xs ys j z sinks = λ o h. sinks o (h, λ p d a b. absurd (omega arith))
+  mend_top xs ys j z sinks = λ h. sinks (h, λ p d a b. absurd (omega arith))
 
-  pub mend_down : (xs ys : List (Entry K)) (j : ℕ) → Tells R xs j ((j - 1) / 2) false → Sinks R xs j ys → Mends R xs j ys
-  unfolding Sinks Mends
-  mend_down xs ys j t sinks = λ o h. sinks o (h, over_by (after (below R)) (ranks o) xs j (t o))
+  module _ (o : IsTotalOrder R) where
+    pub only_child : (xs : List (Entry K)) (j c : ℕ) → c ≡ j * 2 + 1 → length xs ≤ c + 1 → Best R xs j c
+    unfolding Best
+    only_child xs j c e l = only (after (below R)) (ranks o) xs j c (length xs) e l
+
+    pub left_child : (xs : List (Entry K)) (j c : ℕ) → c ≡ j * 2 + 1 → Tells R xs (c + 1) c false → Best R xs j c
+    unfolding Best
+    left_child xs j c e t = first (after (below R)) (ranks o) xs j c (length xs) e t
+
+    pub right_child : (xs : List (Entry K)) (j c : ℕ) → c ≡ j * 2 + 1 → Tells R xs (c + 1) c true → Best R xs j (c + 1)
+    unfolding Best
+    right_child xs j c e t = second (after (below R)) (ranks o) xs j c (length xs) e t
+
+    pub sink_steps : (xs ys zs : List (Entry K)) (j₀ j c : ℕ) → j * 2 + 1 ≤ c → c ≤ j * 2 + 2 → c < length ys → length zs ≡ length ys → Traded ys zs j c → Best R ys j c → Tells R ys c j true → Sinking xs j₀ ys j → Sinking xs j₀ zs c
+    unfolding Sinking Best
+    sink_steps xs ys zs j₀ j c from to in' same s best t was = λ h. (
+      subst (IsHeapWithHole (after (below R)) zs c) (sym same) (down (after (below R)) ys zs j c (length ys) from to in' s best (was h).0),
+      under (after (below R)) ys zs j c (length ys) from to in' s (ranks o) t,
+    )
+
+    pub sink_rests : (xs ys : List (Entry K)) (j₀ j c : ℕ) → Best R ys j c → Tells R ys c j false → Sinking xs j₀ ys j → Sinks R xs j₀ ys
+    unfolding Sinking Sinks Best
+    sink_rests xs ys j₀ j c best t was = λ h. closes (after (below R)) ys j (length ys) (was h).1 (was h).0 (through (after (below R)) (ranks o) ys j c (length ys) t best)
+
+    pub mend_up : (xs ys : List (Entry K)) (j : ℕ) → 0 < j → j < length xs → Tells R xs j ((j - 1) / 2) true → Rises R xs j ys → Mends R xs j ys
+    unfolding Rises Mends
+    mend_up xs ys j z in' t rises = λ h. rises (h, above (after (below R)) (ranks o) xs j (length xs) z t h)
+
+    pub mend_down : (xs ys : List (Entry K)) (j : ℕ) → Tells R xs j ((j - 1) / 2) false → Sinks R xs j ys → Mends R xs j ys
+    unfolding Sinks Mends
+    mend_down xs ys j t sinks = λ h. sinks (h, over_by (after (below R)) (ranks o) xs j t)

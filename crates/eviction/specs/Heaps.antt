@@ -1,7 +1,6 @@
 -- Heaps of entries, whose least rank stands first.
 use Rattle.std.specs.Prelude.{◌≡◌, ℕ, ◌<◌, Bool, false, List, length, take, ◌≢◌, slice_index_or}
 use Rattle.std.specs.declared.cmp.Ordering.{Ordering}
-use Rattle.std.specs.Cmp.{IsTotalOrder}
 use Rattle.std.specs.Ordering.{is_lt}
 use Rattle.std.specs.Slice.Heapsort.{IsHeapWithin}
 use Rattle.eviction.specs.declared.heap.Entry.{Entry}
@@ -35,11 +34,11 @@ below R x y = is_lt (R x y)
 module _ {K : Type 0} (R : K → K → Ordering) where
   -- where xs is a heap, ys is one
   abbrev pub Keeps : List (Entry K) → List (Entry K) → Type 0
-  Keeps xs ys = IsTotalOrder R → Heaped (below R) xs → Heaped (below R) ys
+  Keeps xs ys = Heaped (below R) xs → Heaped (below R) ys
 
   -- where xs is a heap, x is least of it
   abbrev pub Leads : Entry K → List (Entry K) → Type 0
-  Leads x xs = IsTotalOrder R → Heaped (below R) xs → Least (below R) x xs
+  Leads x xs = Heaped (below R) xs → Least (below R) x xs
 
 -- no entry of xs has this place
 abbrev pub Lacks : {K : Type 0} → List (Entry K) → ℕ → Type 0

@@ -12,7 +12,7 @@ const UNIT: u64 = 65536;
 const H_MAX: u64 = 1 << 62;
 
 // The inflation value L, to which the cost of a record by its size is added.
-#[derive(Clone, Copy, Debug)]
+#[derive(Clone, Copy, PartialEq, Eq, Debug)]
 pub struct GreedyDualSize {
     l: u64,
 }
@@ -48,11 +48,7 @@ impl Policy for GreedyDualSize {
     }
 
     fn rank(&self, stamp: u32, size: u32, cost: u16) -> Worth {
-        let step = if size == 0 {
-            0
-        } else {
-            cost as u64 * UNIT / size as u64
-        };
+        let step = (cost as u64 * UNIT).checked_div(size as u64).unwrap_or(0);
         let h = self.l.saturating_add(step).min(H_MAX);
         Worth { h, stamp }
     }

@@ -5,7 +5,7 @@ ghost use Rattle.eviction.specs.Ranks.{stamp_order, stamp_apart};
 
 use crate::policy::Policy;
 
-#[derive(Clone, Copy, Debug)]
+#[derive(Clone, Copy, PartialEq, Eq, Debug)]
 pub struct Lru;
 
 // When a record was last admitted or used.

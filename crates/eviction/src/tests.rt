@@ -1,10 +1,7 @@
 use crate::{Entry, EvictionHeap, GreedyDualSize, Lru, Policy, Stamp, Worth, evict_least};
 
 fn place_of<R: Copy>(entry: Option<Entry<R>>) -> Option<usize> {
-    match entry {
-        Some(e) => Some(e.place),
-        None => None,
-    }
+    entry.map(|e| e.place)
 }
 
 // Inserts an entry for each rank, while there is room.

@@ -7,15 +7,15 @@ ghost use Rattle.fault.specs.declared.Fault.{Fault as Carried};
 
 use std::fmt;
 
-// The layers that refuse, in the order of their numbers.
+// The layers that refuse, by their numbers in a report.
 #[derive(Clone, Copy, PartialEq, Eq, Debug)]
 pub enum Layer {
-    House,
-    Store,
-    Message,
-    Update,
-    Channel,
-    Replay,
+    House = 1,
+    Store = 2,
+    Message = 3,
+    Update = 4,
+    Channel = 5,
+    Replay = 6,
 }
 
 impl Layer {
@@ -23,18 +23,11 @@ impl Layer {
     pub fn number(self) -> u8
         ensures { result ≡ layer_number self }
     {
-        match self {
-            Layer::House => 1,
-            Layer::Store => 2,
-            Layer::Message => 3,
-            Layer::Update => 4,
-            Layer::Channel => 5,
-            Layer::Replay => 6,
-        }
+        self as u8
     }
 }
 
-// A refusal as it is reported. The house is 0 where no house refused, and the version is 0 where no message's version is concerned.
+// A refusal as it is reported. Each layer numbers its own cases, so no one enum has the numbers. The house is 0 where no house refused, and the version is 0 where no message's version is concerned.
 #[derive(Clone, Copy, PartialEq, Eq, Debug)]
 pub struct Fault {
     pub number: u8,

@@ -10,14 +10,18 @@ fn next(x: u32) -> u32 {
 
 // Memory for the entries.
 fn blank(heap: Global) -> Result<Vec<Entry<Stamp>>, AllocError> {
-    let mut entries = Vec::new(heap);
+    let rank = Stamp(0);
+    Ok(vec![in heap; Entry { rank, place: 0 }; PLACES]?)
+}
+
+// Inserts an entry for each place, by the ranks that follow `x`, and answers the last of them.
+fn insert_all(queue: &mut EvictionHeap, entries: &mut [Entry<Stamp>], mut x: u32) -> u32 {
     for place in 0..PLACES {
-        entries.push(Entry {
-            rank: Stamp(0),
-            place,
-        })?;
+        x = next(x);
+        let rank = Stamp(x);
+        let _ = queue.insert(entries, Entry { rank, place });
     }
-    Ok(entries)
+    x
 }
 
 // Inserts an entry for each place, and takes all out again, so many times.
@@ -27,11 +31,7 @@ pub(crate) fn drain(heap: Global, rounds: u32) -> Result<u64, AllocError> {
     let mut sum: u64 = 0;
     let mut x = 1;
     for _ in 0..rounds {
-        for place in 0..PLACES {
-            x = next(x);
-            let rank = Stamp(x);
-            let _ = queue.insert(entries.as_mut_slice(), Entry { rank, place });
-        }
+        x = insert_all(&mut queue, entries.as_mut_slice(), x);
         for turn in 0..PLACES {
             if let Some(entry) = queue.take_least(entries.as_mut_slice()) {
                 sum = sum.wrapping_add((entry.place as u64).wrapping_mul(turn as u64));
@@ -46,12 +46,7 @@ pub(crate) fn rerank_all(heap: Global, rounds: u32) -> Result<u64, AllocError> {
     let mut entries = blank(heap)?;
     let mut queue = EvictionHeap::new();
     let mut sum: u64 = 0;
-    let mut x = 1;
-    for place in 0..PLACES {
-        x = next(x);
-        let rank = Stamp(x);
-        let _ = queue.insert(entries.as_mut_slice(), Entry { rank, place });
-    }
+    let mut x = insert_all(&mut queue, entries.as_mut_slice(), 1);
     for _ in 0..rounds {
         for _ in 0..PLACES {
             x = next(x);

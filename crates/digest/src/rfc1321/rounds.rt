@@ -1,9 +1,9 @@
 // One block of MD5: 64 steps over sixteen words, in four rounds.
-ghost use Rattle.std.specs.Prelude.{◌≡◌, ◌<◌, length, slice_index};
-ghost use Rattle.digest.specs.Md5.{word, sines, aux_f, aux_g, aux_h, aux_i, turned, steps, block};
+ghost use Rattle.std.specs.Prelude.{◌≡◌, ◌<◌, ◌/◌};
+ghost use Rattle.digest.specs.Md5.{word, sines, aux_f, aux_g, aux_h, aux_i, aux, IsListed, turned, step, steps, block, output, big_words};
 
-// T[1] to T[64] of RFC 1321, section 3.4. Blocks read it through a slice: a constant in the code would be added last, one cycle later in each step.
-pub static SINES: [u32; 64] = [
+// T[1] to T[64] of RFC 1321, section 3.4.
+const SINES: [u32; 64] = [
     0xd76aa478, 0xe8c7b756, 0x242070db, 0xc1bdceee, 0xf57c0faf, 0x4787c62a, 0xa8304613, 0xfd469501,
     0x698098d8, 0x8b44f7af, 0xffff5bb1, 0x895cd7be, 0x6b901122, 0xfd987193, 0xa679438e, 0x49b40821,
     0xf61e2562, 0xc040b340, 0x265e5a51, 0xe9b6c7aa, 0xd62f105d, 0x02441453, 0xd8a1e681, 0xe7d3fbc8,
@@ -23,181 +23,180 @@ pub struct Registers {
     pub d: u32,
 }
 
-// The 64 octets of a block, with the table of sines.
-#[derive(Clone, Copy)]
-pub struct Block<'m, 't> {
-    pub octets: &'m [u8],
-    pub table: &'t [u32],
-    ghost whole: { length octets.now ≡ 64 },
-    ghost known: { table.now ≡ sines },
-}
-
-// a = b + ((a + f + X[k] + T[i]) <<< s), and the registers change places.
-fn turn(r: Registers, f: u32, x: u32, t: u32, s: u32) -> Registers
-    requires { (0 < s) × (s < 32) }
-    ensures { result ≡ turned r f x t s }
+// X[k] of the block `x`.
+fn word(x: &[u8; 64], k: usize) -> u32
+    requires { k < 16 }
+    ensures { result ≡ word x.now k }
 {
-    let sum = r.a.wrapping_add(f).wrapping_add(x).wrapping_add(t);
-    Registers {
-        a: r.d,
-        b: r.b.wrapping_add(sum.rotate_left(s)),
-        c: r.b,
-        d: r.c,
-    }
+    u32::from_le_bytes([x[4 * k], x[4 * k + 1], x[4 * k + 2], x[4 * k + 3]])
 }
 
-impl<'m, 't> Block<'m, 't> {
-    // X[k].
-    fn word(self, k: usize) -> u32
-        requires { k < 16 }
-        ensures { result ≡ word self.entry.octets.now k }
+impl Registers {
+    // a = b + ((a + f + X[k] + T[i]) <<< s), and the registers change places.
+    fn turn(self, f: u32, x: u32, t: u32, s: u32) -> Registers
+        requires { (0 < s) × (s < 32) }
+        ensures { result ≡ turned self f x t s }
     {
-        let x = self.octets;
-        u32::from_le_bytes([x[4 * k], x[4 * k + 1], x[4 * k + 2], x[4 * k + 3]])
+        let sum = self.a.wrapping_add(f).wrapping_add(x).wrapping_add(t);
+        Registers {
+            a: self.d,
+            b: self.b.wrapping_add(sum.rotate_left(s)),
+            c: self.b,
+            d: self.c,
+        }
     }
 
-    // A step by F.
-    fn ff(self, r: Registers, k: usize, s: u32, i: usize) -> Registers
-        requires { (k < 16) × ((0 < s) × ((s < 32) × (i < 64))) }
-        ensures { result ≡ turned r (aux_f r.b r.c r.d) (word self.entry.octets.now k) (slice_index sines i) s }
+    // Step i over the block `x`, by the round's auxiliary function of the registers, and with k and s as the RFC lists them.
+    fn step(self, x: &[u8; 64], f: u32, k: usize, s: u32, i: usize) -> Registers
+        requires number { i < 64 }
+        requires auxiliary { f ≡ aux i self.b self.c self.d }
+        requires listed { IsListed i k s }
+        ensures { result ≡ step x.now i self }
     {
-        turn(
-            r,
-            (r.b & r.c) | (!r.b & r.d),
-            self.word(k),
-            self.table[i],
-            s,
-        )
+        self.turn(f, word(x, k), SINES[i], s)
     }
 
-    // A step by G.
-    fn gg(self, r: Registers, k: usize, s: u32, i: usize) -> Registers
-        requires { (k < 16) × ((0 < s) × ((s < 32) × (i < 64))) }
-        ensures { result ≡ turned r (aux_g r.b r.c r.d) (word self.entry.octets.now k) (slice_index sines i) s }
+    // A step of round 1, by F. The auxiliary functions stand in the calls of `step`: F and G as functions of their own are compiled to longer chains.
+    fn ff(self, x: &[u8; 64], k: usize, s: u32, i: usize) -> Registers
+        requires round { i / 16 ≡ 0 }
+        requires listed { IsListed i k s }
+        ensures { result ≡ step x.now i self }
     {
-        turn(
-            r,
-            (r.b & r.d) | (r.c & !r.d),
-            self.word(k),
-            self.table[i],
-            s,
-        )
+        self.step(x, (self.b & self.c) | (!self.b & self.d), k, s, i)
     }
 
-    // A step by H.
-    fn hh(self, r: Registers, k: usize, s: u32, i: usize) -> Registers
-        requires { (k < 16) × ((0 < s) × ((s < 32) × (i < 64))) }
-        ensures { result ≡ turned r (aux_h r.b r.c r.d) (word self.entry.octets.now k) (slice_index sines i) s }
+    // A step of round 2, by G.
+    fn gg(self, x: &[u8; 64], k: usize, s: u32, i: usize) -> Registers
+        requires round { i / 16 ≡ 1 }
+        requires listed { IsListed i k s }
+        ensures { result ≡ step x.now i self }
     {
-        turn(r, r.b ^ r.c ^ r.d, self.word(k), self.table[i], s)
+        self.step(x, (self.b & self.d) | (self.c & !self.d), k, s, i)
     }
 
-    // A step by I.
-    fn ii(self, r: Registers, k: usize, s: u32, i: usize) -> Registers
-        requires { (k < 16) × ((0 < s) × ((s < 32) × (i < 64))) }
-        ensures { result ≡ turned r (aux_i r.b r.c r.d) (word self.entry.octets.now k) (slice_index sines i) s }
+    // A step of round 3, by H.
+    fn hh(self, x: &[u8; 64], k: usize, s: u32, i: usize) -> Registers
+        requires round { i / 16 ≡ 2 }
+        requires listed { IsListed i k s }
+        ensures { result ≡ step x.now i self }
     {
-        turn(r, r.c ^ (r.b | !r.d), self.word(k), self.table[i], s)
+        self.step(x, self.b ^ self.c ^ self.d, k, s, i)
     }
 
-    // The first round, as the RFC lists it: X[k], the shift, and the number of the step.
-    fn round1(self, r: Registers) -> Registers
-        ensures { result ≡ steps self.entry.octets.now 0 16 r }
+    // A step of round 4, by I.
+    fn ii(self, x: &[u8; 64], k: usize, s: u32, i: usize) -> Registers
+        requires round { i / 16 ≡ 3 }
+        requires listed { IsListed i k s }
+        ensures { result ≡ step x.now i self }
     {
-        let r = self.ff(r, 0, 7, 0);
-        let r = self.ff(r, 1, 12, 1);
-        let r = self.ff(r, 2, 17, 2);
-        let r = self.ff(r, 3, 22, 3);
-        let r = self.ff(r, 4, 7, 4);
-        let r = self.ff(r, 5, 12, 5);
-        let r = self.ff(r, 6, 17, 6);
-        let r = self.ff(r, 7, 22, 7);
-        let r = self.ff(r, 8, 7, 8);
-        let r = self.ff(r, 9, 12, 9);
-        let r = self.ff(r, 10, 17, 10);
-        let r = self.ff(r, 11, 22, 11);
-        let r = self.ff(r, 12, 7, 12);
-        let r = self.ff(r, 13, 12, 13);
-        let r = self.ff(r, 14, 17, 14);
-        self.ff(r, 15, 22, 15)
+        self.step(x, self.c ^ (self.b | !self.d), k, s, i)
+    }
+
+    // The first round, as the RFC lists it: X[k], the shift, and the number of the step. A loop over a table of them takes twice the time.
+    fn round1(self, x: &[u8; 64]) -> Registers
+        ensures { result ≡ steps x.now 0 16 self }
+    {
+        self.ff(x, 0, 7, 0)
+            .ff(x, 1, 12, 1)
+            .ff(x, 2, 17, 2)
+            .ff(x, 3, 22, 3)
+            .ff(x, 4, 7, 4)
+            .ff(x, 5, 12, 5)
+            .ff(x, 6, 17, 6)
+            .ff(x, 7, 22, 7)
+            .ff(x, 8, 7, 8)
+            .ff(x, 9, 12, 9)
+            .ff(x, 10, 17, 10)
+            .ff(x, 11, 22, 11)
+            .ff(x, 12, 7, 12)
+            .ff(x, 13, 12, 13)
+            .ff(x, 14, 17, 14)
+            .ff(x, 15, 22, 15)
     }
 
     // The second round, as the RFC lists it: X[k], the shift, and the number of the step.
-    fn round2(self, r: Registers) -> Registers
-        ensures { result ≡ steps self.entry.octets.now 16 16 r }
+    fn round2(self, x: &[u8; 64]) -> Registers
+        ensures { result ≡ steps x.now 16 16 self }
     {
-        let r = self.gg(r, 1, 5, 16);
-        let r = self.gg(r, 6, 9, 17);
-        let r = self.gg(r, 11, 14, 18);
-        let r = self.gg(r, 0, 20, 19);
-        let r = self.gg(r, 5, 5, 20);
-        let r = self.gg(r, 10, 9, 21);
-        let r = self.gg(r, 15, 14, 22);
-        let r = self.gg(r, 4, 20, 23);
-        let r = self.gg(r, 9, 5, 24);
-        let r = self.gg(r, 14, 9, 25);
-        let r = self.gg(r, 3, 14, 26);
-        let r = self.gg(r, 8, 20, 27);
-        let r = self.gg(r, 13, 5, 28);
-        let r = self.gg(r, 2, 9, 29);
-        let r = self.gg(r, 7, 14, 30);
-        self.gg(r, 12, 20, 31)
+        self.gg(x, 1, 5, 16)
+            .gg(x, 6, 9, 17)
+            .gg(x, 11, 14, 18)
+            .gg(x, 0, 20, 19)
+            .gg(x, 5, 5, 20)
+            .gg(x, 10, 9, 21)
+            .gg(x, 15, 14, 22)
+            .gg(x, 4, 20, 23)
+            .gg(x, 9, 5, 24)
+            .gg(x, 14, 9, 25)
+            .gg(x, 3, 14, 26)
+            .gg(x, 8, 20, 27)
+            .gg(x, 13, 5, 28)
+            .gg(x, 2, 9, 29)
+            .gg(x, 7, 14, 30)
+            .gg(x, 12, 20, 31)
     }
 
     // The third round, as the RFC lists it: X[k], the shift, and the number of the step.
-    fn round3(self, r: Registers) -> Registers
-        ensures { result ≡ steps self.entry.octets.now 32 16 r }
+    fn round3(self, x: &[u8; 64]) -> Registers
+        ensures { result ≡ steps x.now 32 16 self }
     {
-        let r = self.hh(r, 5, 4, 32);
-        let r = self.hh(r, 8, 11, 33);
-        let r = self.hh(r, 11, 16, 34);
-        let r = self.hh(r, 14, 23, 35);
-        let r = self.hh(r, 1, 4, 36);
-        let r = self.hh(r, 4, 11, 37);
-        let r = self.hh(r, 7, 16, 38);
-        let r = self.hh(r, 10, 23, 39);
-        let r = self.hh(r, 13, 4, 40);
-        let r = self.hh(r, 0, 11, 41);
-        let r = self.hh(r, 3, 16, 42);
-        let r = self.hh(r, 6, 23, 43);
-        let r = self.hh(r, 9, 4, 44);
-        let r = self.hh(r, 12, 11, 45);
-        let r = self.hh(r, 15, 16, 46);
-        self.hh(r, 2, 23, 47)
+        self.hh(x, 5, 4, 32)
+            .hh(x, 8, 11, 33)
+            .hh(x, 11, 16, 34)
+            .hh(x, 14, 23, 35)
+            .hh(x, 1, 4, 36)
+            .hh(x, 4, 11, 37)
+            .hh(x, 7, 16, 38)
+            .hh(x, 10, 23, 39)
+            .hh(x, 13, 4, 40)
+            .hh(x, 0, 11, 41)
+            .hh(x, 3, 16, 42)
+            .hh(x, 6, 23, 43)
+            .hh(x, 9, 4, 44)
+            .hh(x, 12, 11, 45)
+            .hh(x, 15, 16, 46)
+            .hh(x, 2, 23, 47)
     }
 
     // The fourth round, as the RFC lists it: X[k], the shift, and the number of the step.
-    fn round4(self, r: Registers) -> Registers
-        ensures { result ≡ steps self.entry.octets.now 48 16 r }
+    fn round4(self, x: &[u8; 64]) -> Registers
+        ensures { result ≡ steps x.now 48 16 self }
     {
-        let r = self.ii(r, 0, 6, 48);
-        let r = self.ii(r, 7, 10, 49);
-        let r = self.ii(r, 14, 15, 50);
-        let r = self.ii(r, 5, 21, 51);
-        let r = self.ii(r, 12, 6, 52);
-        let r = self.ii(r, 3, 10, 53);
-        let r = self.ii(r, 10, 15, 54);
-        let r = self.ii(r, 1, 21, 55);
-        let r = self.ii(r, 8, 6, 56);
-        let r = self.ii(r, 15, 10, 57);
-        let r = self.ii(r, 6, 15, 58);
-        let r = self.ii(r, 13, 21, 59);
-        let r = self.ii(r, 4, 6, 60);
-        let r = self.ii(r, 11, 10, 61);
-        let r = self.ii(r, 2, 15, 62);
-        self.ii(r, 9, 21, 63)
+        self.ii(x, 0, 6, 48)
+            .ii(x, 7, 10, 49)
+            .ii(x, 14, 15, 50)
+            .ii(x, 5, 21, 51)
+            .ii(x, 12, 6, 52)
+            .ii(x, 3, 10, 53)
+            .ii(x, 10, 15, 54)
+            .ii(x, 1, 21, 55)
+            .ii(x, 8, 6, 56)
+            .ii(x, 15, 10, 57)
+            .ii(x, 6, 15, 58)
+            .ii(x, 13, 21, 59)
+            .ii(x, 4, 6, 60)
+            .ii(x, 11, 10, 61)
+            .ii(x, 2, 15, 62)
+            .ii(x, 9, 21, 63)
     }
 
-    // The registers after the block.
-    pub fn compress(self, r: Registers) -> Registers
-        ensures { result ≡ block self.entry.octets.now r }
+    // The registers after the block `x`.
+    pub fn compress(self, x: &[u8; 64]) -> Registers
+        ensures { result ≡ block x.now self }
     {
-        let q = self.round4(self.round3(self.round2(self.round1(r))));
+        let r = self.round1(x).round2(x).round3(x).round4(x);
         Registers {
-            a: r.a.wrapping_add(q.a),
-            b: r.b.wrapping_add(q.b),
-            c: r.c.wrapping_add(q.c),
-            d: r.d.wrapping_add(q.d),
+            a: self.a.wrapping_add(r.a),
+            b: self.b.wrapping_add(r.b),
+            c: self.c.wrapping_add(r.c),
+            d: self.d.wrapping_add(r.d),
         }
+    }
+
+    // The octets of the registers as words, the highest octet of each first.
+    pub fn words(self) -> [u32; 4]
+        ensures { result ≡ big_words (output self) }
+    {
+        [self.a, self.b, self.c, self.d].map(u32::swap_bytes)
     }
 }

@@ -37,7 +37,7 @@ impl EvictionHeap {
         }
         entries[at] = entry;
         self.len = at + 1;
-        sift_up(&mut entries[0..at + 1], at);
+        sift_up(&mut entries[..at + 1], at);
         Ok(())
     }
 
@@ -45,10 +45,7 @@ impl EvictionHeap {
     pub fn peek<R: Ord + Copy>(&self, entries: &[Entry<R>]) -> Option<Entry<R>>
         ensures { MatchOption result (live self.now entries.now ≡ []) (λ x. (live self.now entries.now ≡ x ∷ drop 1 (live self.now entries.now)) × Leads R.Ord.cmp x (live self.now entries.now)) }
     {
-        if self.len(entries) == 0 {
-            return None;
-        }
-        Some(entries[0])
+        entries[..self.len(entries)].first().copied()
     }
 
     // Takes out the entry that `peek` answers.
@@ -57,11 +54,8 @@ impl EvictionHeap {
         ensures cases { MatchOption result ((live self.old entries.old ≡ []) × (self.new ≡ self.old) × (entries.new ≡ entries.old)) (λ x. (live self.old entries.old ≡ x ∷ drop 1 (live self.old entries.old)) × Leads R.Ord.cmp x (live self.old entries.old) × IsPermutation (live self.old entries.old) (x ∷ live self.new entries.new)) }
     {
         let len = self.len(entries);
-        if len == 0 {
-            return None;
-        }
-        self.len = len - 1;
-        Some(take_out(&mut entries[0..len], 0))
+        self.len = len.checked_sub(1)?;
+        Some(take_out(&mut entries[..len], 0))
     }
 
     // Takes out an entry with this place, if one is live.
@@ -74,7 +68,7 @@ impl EvictionHeap {
         ensures cases { MatchOption result (Lacks (live self.old entries.old) place × (self.new ≡ self.old) × (entries.new ≡ entries.old)) (λ x. (x.place ≡ place) × IsPermutation (live self.old entries.old) (x ∷ live self.new entries.new)) }
     {
         let len = self.len(entries);
-        let live = &mut entries[0..len];
+        let live = &mut entries[..len];
         let at = position(live, place)?;
         self.len = len - 1;
         Some(take_out(live, at))
@@ -92,7 +86,7 @@ impl EvictionHeap {
         ensures cases { MatchOption result (Lacks (live self.old entries.old) place × (entries.new ≡ entries.old)) (λ x. (x.place ≡ place) × ((rest : List (Entry R)) × IsPermutation (live self.old entries.old) (x ∷ rest) × IsPermutation (live self.new entries.new) (record { rank = rank; place = place } ∷ rest))) }
     {
         let len = self.len(entries);
-        let live = &mut entries[0..len];
+        let live = &mut entries[..len];
         let at = position(live, place)?;
         let old = live[at];
         live[at] = Entry { rank, place };

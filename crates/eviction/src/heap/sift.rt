@@ -11,7 +11,7 @@ fn is_less<R: Ord + Copy>(live: &[Entry<R>], a: usize, b: usize) -> bool
     requires { (a < length live.now) × (b < length live.now) }
     ensures { Tells R.Ord.cmp live.now a b result }
 {
-    live[a].rank.cmp(&live[b].rank).is_lt()
+    live[a].rank < live[b].rank
 }
 
 // The child of `at` whose rank is least.
@@ -28,7 +28,7 @@ fn least_child<R: Ord + Copy>(live: &[Entry<R>], at: usize) -> usize
     left
 }
 
-// Moves the entry at `at` up to where its parent's rank is not above its own.
+// Moves the entry at `at` up to where its parent's rank is not above its own. The index goes from child to parent, which no iterator does.
 pub(crate) fn sift_up<R: Ord + Copy>(live: &mut [Entry<R>], mut at: usize)
     requires { at < length live.old }
     ensures shuffled { IsPermutation live.old live.new }
@@ -44,7 +44,7 @@ pub(crate) fn sift_up<R: Ord + Copy>(live: &mut [Entry<R>], mut at: usize)
     }
 }
 
-// Moves the entry at `at` down to where no child's rank is below its own.
+// Moves the entry at `at` down to where no child's rank is below its own. The index goes from parent to child, which no iterator does.
 fn sift_down<R: Ord + Copy>(live: &mut [Entry<R>], mut at: usize)
     requires { at < length live.old }
     ensures shuffled { IsPermutation live.old live.new }
@@ -78,12 +78,7 @@ pub(crate) fn mend<R: Ord + Copy>(live: &mut [Entry<R>], at: usize)
 pub(crate) fn position<R: Copy>(live: &[Entry<R>], place: usize) -> Option<usize>
     ensures { MatchOption result (Lacks live.now place) (λ i. (i < length live.now) × ((d : Entry R) → (slice_index_or live.now i d).place ≡ place)) }
 {
-    for (i, e) in live.iter().enumerate() {
-        if e.place == place {
-            return Some(i);
-        }
-    }
-    None
+    live.iter().position(|e| e.place == place)
 }
 
 // Takes the entry at `at` out: the last one comes there, and the last place is free.
@@ -97,7 +92,7 @@ pub(crate) fn take_out<R: Ord + Copy>(live: &mut [Entry<R>], at: usize) -> Entry
     let out = live[at];
     live[at] = live[last];
     if at < last {
-        mend(&mut live[0..last], at);
+        mend(&mut live[..last], at);
     }
     out
 }

@@ -1,36 +1,13 @@
-use Rattle.std.proofs.Common.{◌-◌, ◌∷◌, length, take, sym, refl, subst}
-use Rattle.std.specs.List.Sorted.{IsPermutation}
-use Rattle.eviction.specs.Heaps.{Keeps, Lacks}
+use Rattle.std.proofs.Common.{◌-◌, take, refl}
 use Rattle.eviction.proofs.Moves as moves
 use Rattle.eviction.proofs.heap.EvictionHeap.remove.Goals as goal
-
-pub returns-in_err-at : goal.returns-in_err-at
-returns-in_err-at g c =
-    let es = c.args.entries.now in
-    let m = c.args.self.now.len in
-    let n = c.len-len.result in
-    let part = moves.part es m n c.len-len.ensures.live in
-    let same = moves.unchanged es n in
-    let lacks : Lacks (take m es) c.args.place = subst (λ l. Lacks l c.args.place) part c.in_err-at.ensures in
-    record {
-      order = subst (λ l. Keeps g.R.Ord.cmp (take m es) (take m l)) (sym same) (λ o h. h);
-      cases = rw c.from_residual.ensures (lacks, refl {a = c.args.self.now}, same);
-    }
 
 pub returns : goal.returns
 returns g c =
     let es = c.args.entries.now in
     let n = c.len-len.result in
-    let xs = take c.args.self.now.len es in
     let x = c.take_out.result in
-    let ys = c.take_out.new.live in
     let told = c.take_out.ensures in
-    let part = moves.part es c.args.self.now.len n c.len-len.ensures.live in
-    let shorter = moves.shorter es ys n c.len-len.ensures.within c.take_out.auto.live in
-    let left = take (length (take (n - 0) es) - 1) ys in
-    let keeps : Keeps g.R.Ord.cmp xs left = subst (λ l. Keeps g.R.Ord.cmp l left) part told.keeps in
-    let shuffled : IsPermutation xs (x ∷ left) = subst (λ l. IsPermutation l (x ∷ left)) part told.shuffled in
-    record {
-      order = subst (Keeps g.R.Ord.cmp xs) (sym shorter) keeps;
-      cases = (moves.found (take (n - 0) es) c.in_ok-at.at c.args.place x (told.value x) c.in_ok-at.ensures.1, subst (λ l. IsPermutation xs (x ∷ l)) (sym shorter) shuffled);
-    }
+    let len = c.len-len.ensures in
+    let left = moves.taken g.R.Ord.cmp es c.take_out.new.live c.args.self.now.len n (n - 1) x len.live len.within refl c.take_out.auto.live told.keeps told.shuffled in
+    record { order = left.0; cases = (moves.found (take n es) c.in_ok-at.at c.args.place x (told.value x) c.in_ok-at.ensures.1, left.1) }

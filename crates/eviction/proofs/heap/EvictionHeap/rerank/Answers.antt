@@ -1,25 +1,12 @@
-use Rattle.std.proofs.Common.{◌≡◌, ◌-◌, ◌<◌, ◌∷◌, length, get_or, take, set, sym, refl, ap, subst, arith, length-set, take_all}
+use Rattle.std.proofs.Common.{◌≡◌, ◌<◌, ◌∷◌, length, get_or, take, set, sym, refl, ap, subst, arith, length-set, take_all}
+use Rattle.std.specs.List.{remove}
 use Rattle.std.specs.List.Sorted.{IsPermutation}
-use Rattle.std.proofs.lemmas.List.Sorted.{IsPermutation-trans, IsPermutation-sym, length_permutation}
+use Rattle.std.proofs.lemmas.List.Sorted.{IsPermutation-trans, IsPermutation-sym, IsPermutation-remove, length_permutation}
 use Rattle.eviction.specs.declared.heap.Entry.{Entry}
-use Rattle.eviction.specs.Heaps.{Keeps, Lacks}
+use Rattle.eviction.specs.Heaps.{Keeps}
 use Rattle.eviction.specs.Sifts.{Mends}
 use Rattle.eviction.proofs.Moves as moves
 use Rattle.eviction.proofs.heap.EvictionHeap.rerank.Goals as goal
-
-pub returns-in_err-at : goal.returns-in_err-at
-returns-in_err-at g c =
-    let es = c.args.entries.now in
-    let m = c.args.self.now.len in
-    let n = c.len-len.result in
-    let part = moves.part es m n c.len-len.ensures.live in
-    let same = moves.unchanged es n in
-    let lacks : Lacks (take m es) c.args.place = subst (λ l. Lacks l c.args.place) part c.in_err-at.ensures in
-    record {
-      heap = refl {a = c.args.self.now};
-      order = subst (λ l. Keeps g.R.Ord.cmp (take m es) (take m l)) (sym same) (λ o h. h);
-      cases = rw c.from_residual.ensures (lacks, same);
-    }
 
 pub returns : goal.returns
 returns g c =
@@ -43,10 +30,10 @@ returns g c =
     let mends' : Mends g.R.Ord.cmp (take (length xs) w) at ys = subst (λ l. Mends g.R.Ord.cmp l at ys) (sym (take_all (length xs) w (omega arith))) mends in
     let long : length ys ≡ n = omega (arith, length_permutation w ys shuffled, c.len-len.ensures.live) in
     let is = moves.filled es ys m n c.len-len.ensures.live long in
-    let out : IsPermutation xs (x ∷ moves.others xs at) = subst (λ e. IsPermutation xs (e ∷ moves.others xs at)) (sym x-is) (moves.picked xs at x in') in
-    let into : IsPermutation ys (new ∷ moves.others xs at) = IsPermutation-trans ys w (new ∷ moves.others xs at) (IsPermutation-sym w ys shuffled) (moves.placed xs at new in') in
+    let out : IsPermutation xs (x ∷ remove xs at) = IsPermutation-remove xs at x in' x-is in
+    let into : IsPermutation ys (new ∷ remove xs at) = IsPermutation-trans ys w (new ∷ remove xs at) (IsPermutation-sym w ys shuffled) (moves.placed xs at new in') in
     record {
       heap = refl {a = c.args.self.now};
-      order = subst (Keeps g.R.Ord.cmp xs) (sym is) (moves.mend_keeps g.R.Ord.cmp xs ys at (length xs) new (omega arith) mends');
-      cases = (moves.found (take (n - 0) es) at c.args.place x c.index-live-at.is found.1, (moves.others xs at, out, subst (λ l. IsPermutation l (new ∷ moves.others xs at)) (sym is) into));
+      order = subst (Keeps g.R.Ord.cmp xs) (sym is) (moves.mend_keeps g.R.Ord.cmp g.met.R.Ord.total xs ys at (length xs) new (omega arith) mends');
+      cases = (moves.found (take n es) at c.args.place x c.index-live-at.is found.1, (remove xs at, out, subst (λ l. IsPermutation l (new ∷ remove xs at)) (sym is) into));
     }

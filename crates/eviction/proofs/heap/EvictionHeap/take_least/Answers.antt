@@ -1,29 +1,18 @@
-use Rattle.std.proofs.Common.{◌≡◌, ◌-◌, ◌∷◌, length, get_or, take, sym, refl, ap, ◌∙◌, subst, arith}
-use Rattle.std.specs.List.Sorted.{IsPermutation}
-use Rattle.std.proofs.lemmas.List.{nil_from_length}
+use Rattle.std.proofs.Common.{◌≡◌, ◌-◌, get_or, take, ap, ◌∙◌, arith}
 use Rattle.eviction.specs.declared.heap.Entry.{Entry}
-use Rattle.eviction.specs.Heaps.{Keeps}
 use Rattle.eviction.proofs.Moves as moves
 use Rattle.eviction.proofs.heap.EvictionHeap.take_least.Goals as goal
-
-pub returns-then-len-eq0 : goal.returns-then-len-eq0
-returns-then-len-eq0 g c = record { order = λ o h. h; cases = (nil_from_length (take c.args.self.now.len c.args.entries.now) (omega arith), refl, refl) }
 
 pub returns : goal.returns
 returns g c =
     let es = c.args.entries.now in
+    let m = c.args.self.now.len in
     let n = c.len-len.result in
-    let xs = take c.args.self.now.len es in
+    let xs = take m es in
     let x = c.take_out.result in
-    let ys = c.take_out.new.live in
     let told = c.take_out.ensures in
-    let part = moves.part es c.args.self.now.len n c.len-len.ensures.live in
-    let shorter = moves.shorter es ys n c.len-len.ensures.within c.take_out.auto.live in
-    let left = take (length (take (n - 0) es) - 1) ys in
-    let keeps : Keeps g.R.Ord.cmp xs left = subst (λ l. Keeps g.R.Ord.cmp l left) part told.keeps in
-    let shuffled : IsPermutation xs (x ∷ left) = subst (λ l. IsPermutation l (x ∷ left)) part told.shuffled in
-    let first : (d : Entry g.row.R.Denot) → x ≡ get_or xs 0 d = λ d. told.value d ∙ ap (λ l. get_or l 0 d) part in
-    record {
-      order = subst (Keeps g.R.Ord.cmp xs) (sym shorter) keeps;
-      cases = (moves.headed xs x (omega arith) first, moves.leads g.R.Ord.cmp xs x first, subst (λ l. IsPermutation xs (x ∷ l)) (sym shorter) shuffled);
-    }
+    let len = c.len-len.ensures in
+    let less : c.in_ok-self.field-0 ≡ n - 1 = omega (arith, c.in_ok-self.ensures) in
+    let left = moves.taken g.R.Ord.cmp es c.take_out.new.live m n c.in_ok-self.field-0 x len.live len.within less c.take_out.auto.live told.keeps told.shuffled in
+    let first : (d : Entry g.row.R.Denot) → x ≡ get_or xs 0 d = λ d. told.value d ∙ ap (λ l. get_or l 0 d) (moves.part es m n len.live) in
+    record { order = left.0; cases = (moves.headed xs x (omega arith) first, moves.leads g.R.Ord.cmp g.met.R.Ord.total xs x first, left.1) }

@@ -9,7 +9,7 @@ loop-at-init g c = (IsPermutation-refl c.args.live.now, sifts.sink_begins g.R.Or
 pub returns-then-not-is_less : goal.returns-then-not-is_less
 returns-then-not-is_less g c =
     let l = c.loop-at in
-    record { shuffled = l.invariant.0; sinks = sifts.sink_rests g.R.Ord.cmp c.args.live.now l.live c.args.at l.at c.least_child-child.result c.least_child-child.ensures.best c.if-not-is_less.ensures l.invariant.1 }
+    record { shuffled = l.invariant.0; sinks = sifts.sink_rests g.R.Ord.cmp g.met.R.Ord.total c.args.live.now l.live c.args.at l.at c.least_child-child.result c.least_child-child.ensures.best c.if-not-is_less.ensures l.invariant.1 }
 
 pub loop-at-preserved : goal.loop-at-preserved
 loop-at-preserved g c =
@@ -20,7 +20,7 @@ loop-at-preserved g c =
     let told = c.swap.ensures in
     let child = c.least_child-child.result in
     let best = c.least_child-child.ensures in
-    (IsPermutation-trans xs ys zs l.invariant.0 told.permutation, sifts.sink_steps g.R.Ord.cmp xs ys zs c.args.at l.at child best.bound.1 best.bound.2 best.bound.0 told.len (told.by_index.0, told.by_index.1, told.by_index.2) best.best c.if-not-is_less.ensures l.invariant.1)
+    (IsPermutation-trans xs ys zs l.invariant.0 told.permutation, sifts.sink_steps g.R.Ord.cmp g.met.R.Ord.total xs ys zs c.args.at l.at child best.bound.1 best.bound.2 best.bound.0 told.len (told.by_index.0, told.by_index.1, told.by_index.2) best.best c.if-not-is_less.ensures l.invariant.1)
 
 pub returns : goal.returns
 returns g c =

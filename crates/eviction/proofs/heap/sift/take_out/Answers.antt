@@ -4,7 +4,6 @@ use Rattle.std.specs.List.Sorted.{IsPermutation}
 use Rattle.std.proofs.lemmas.List.Sorted.{IsPermutation-trans, IsPermutation-cons, length_permutation}
 use Rattle.std.proofs.lemmas.List.{get_or_default}
 use Rattle.eviction.specs.Heaps.{Keeps}
-use Rattle.eviction.specs.Sifts.{Mends}
 use Rattle.eviction.proofs.Moves as moves
 use Rattle.eviction.proofs.heap.sift.take_out.Goals as goal
 
@@ -19,15 +18,12 @@ returns-then-at-last g c =
     let ys = c.mend.new.live in
     let told = c.mend.ensures in
     let same : length w ≡ length xs = length-set xs at v in
-    let zero : k - 0 ≡ k = omega arith in
-    let shuffled : IsPermutation (take k w) ys = subst (λ m. IsPermutation (take m w) ys) zero told.shuffled in
-    let mends : Mends g.R.Ord.cmp (take k w) at ys = subst (λ m. Mends g.R.Ord.cmp (take m w) at ys) zero told.mends in
-    let long : length ys ≡ k = omega (arith, length_permutation (take k w) ys shuffled, length-take-le k w (omega arith)) in
-    let is : take k (ys ++ post_of 0 (k - 0) w) ≡ ys = moves.back w ys k k long (omega arith) ∙ take_all k ys (omega arith) in
+    let long : length ys ≡ k = omega (arith, length_permutation (take k w) ys told.shuffled, length-take-le k w (omega arith)) in
+    let is : take k (ys ++ post_of 0 k w) ≡ ys = moves.back w ys k k long (omega arith) ∙ take_all k ys (omega arith) in
     record {
       value = λ d. c.index-live-at.is ∙ get_or_default xs at r d c.requires;
-      shuffled = subst (λ l. IsPermutation xs (r ∷ l)) (sym is) (IsPermutation-trans xs (r ∷ take k w) (r ∷ ys) (moves.out_shuffles xs at k r v c.requires refl c.index-live-at.is c.index-live-last.is) (IsPermutation-cons r (take k w) ys shuffled));
-      keeps = subst (Keeps g.R.Ord.cmp xs) (sym is) (moves.mend_keeps g.R.Ord.cmp xs ys at k v (omega arith) mends);
+      shuffled = subst (λ l. IsPermutation xs (r ∷ l)) (sym is) (IsPermutation-trans xs (r ∷ take k w) (r ∷ ys) (moves.out_shuffles xs at k r v c.requires refl c.index-live-at.is c.index-live-last.is) (IsPermutation-cons r (take k w) ys told.shuffled));
+      keeps = subst (Keeps g.R.Ord.cmp xs) (sym is) (moves.mend_keeps g.R.Ord.cmp g.met.R.Ord.total xs ys at k v (omega arith) told.mends);
     }
 
 pub returns-else-at-last : goal.returns-else-at-last
