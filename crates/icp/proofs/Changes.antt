@@ -99,21 +99,19 @@ module _ (a b : List ℕ) where
   changed_few n = let l = length_changed n in let t = tally_le (differs a b) n in omega arith
 
   -- one position further on, with an entry or without
-  module _ (n at next : ℕ) (now then : List ℕ) (at_is : at ≡ 32 + 4 * length (changed a b n)) where
-    pub step_more : (e : Change) (octets : List ℕ) → differs a b n ≡ true → e ≡ item n → octets ≡ entry_octets e → next ≡ at + 4 → then ≡ put_at now at octets
-        → (next ≡ 32 + 4 * length (changed a b (n + 1))) × ((xs : List ℕ) → 32 ≤ length xs → now ≡ listed xs a b n → then ≡ listed xs a b (n + 1))
-    step_more e octets d is octets-is next-is then_is =
-        let l = longer n d in (
-          omega arith,
-          (λ xs h w. then_is ∙ (λ j. put_at (w j) at (octets-is j)) ∙ listed_more xs n at e h d is at_is),
-        )
+  module _ (xs : List ℕ) (n at next : ℕ) (now then : List ℕ) (at_is : at ≡ 32 + 4 * length (changed a b n)) (now_is : now ≡ listed xs a b n) where
+    pub step_more : (e : Change) (octets : List ℕ) → 32 ≤ length xs → differs a b n ≡ true → e ≡ item n → octets ≡ entry_octets e → next ≡ at + 4 → then ≡ put_at now at octets
+        → (next ≡ 32 + 4 * length (changed a b (n + 1))) × (then ≡ listed xs a b (n + 1))
+    step_more e octets h d is octets-is next-is then_is =
+        let l = longer n d in
+        (omega arith, then_is ∙ (λ j. put_at (now_is j) at (octets-is j)) ∙ listed_more xs n at e h d is at_is)
 
     pub step_same : differs a b n ≡ false → next ≡ at → then ≡ now
-        → (next ≡ 32 + 4 * length (changed a b (n + 1))) × ((xs : List ℕ) → 32 ≤ length xs → now ≡ listed xs a b n → then ≡ listed xs a b (n + 1))
+        → (next ≡ 32 + 4 * length (changed a b (n + 1))) × (then ≡ listed xs a b (n + 1))
     step_same d next-is then_is =
         let same = changed_same n d in (
           next-is ∙ at_is ∙ sym (ap (λ es. 32 + 4 * length es) same),
-          (λ xs h w. then_is ∙ w ∙ sym (ap (λ es. begins (take 32 xs ++ flat_map entry_octets es) xs) same)),
+          then_is ∙ now_is ∙ sym (ap (λ es. begins (take 32 xs ++ flat_map entry_octets es) xs) same),
         )
 
   -- no change in a run of positions where they agree

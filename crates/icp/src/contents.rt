@@ -6,7 +6,7 @@ use crate::opcode::Opcode;
 pub struct Header {
     pub opcode: Opcode,
     pub request: u32,
-    pub data: u32,
+    pub option: u32,
     pub sender: u32,
 }
 

@@ -14,7 +14,11 @@ returns-in-Some c =
     let a = vec_items c.args.before.now.octets in
     let b = vec_items c.args.after.now.octets in
     let xs = c.args.out.now in
-    let room : 32 + m / 8 ≤ length xs = let x = c.octets.ensures in let y = ap (λ z. z.positions) c.size.ensures in omega arith in (
+    let told = c.in-Some.ensures in
+    let room : 32 + m / 8 ≤ length xs = let x = c.octets.ensures in let y = ap (λ z. z.positions) c.size.ensures in omega arith in
+    let put : Written m (changes s (e + 1) (changed a b m)) xs c.put.new.out c.put.result =
+    subst (λ t. Written t.size.positions (changes s (e + 1) (changed a (vec_items t.octets) t.size.positions)) xs c.put.new.out c.put.result) told.2
+    (subst (λ t. Written c.in-Some.list.after.now.size.positions (changes s (e + 1) (changed (vec_items t.octets) (vec_items c.in-Some.list.after.now.octets) c.in-Some.list.after.now.size.positions)) xs c.put.new.out c.put.result) told.1 c.put.ensures) in (
       (λ j. refuse (ne_eqb e 4294967295 c.if-earlier-eq4294967295.false j) (LastVersion s) (refuse (le-ltb (length xs) (32 + m / 8) room j) (Output s) None)),
-      subst (λ t. Written m (cond t (changes s (e + 1) (changed a b m)) (whole s (e + 1) b)) xs c.put_list.new.out c.put_list.result) (sym c.in-Some.ensures.0) c.put_list.ensures,
+      subst (λ t. Written m (cond t (changes s (e + 1) (changed a b m)) (whole s (e + 1) b)) xs c.put.new.out c.put.result) (sym told.0) put,
     )
