@@ -5,7 +5,6 @@ use Rattle.std.specs.List.{flat_map}
 use Rattle.std.proofs.lemmas.List.{append-nil, length-take-le, length_push, take-append-drop}
 use Rattle.filter.specs.Summaries.{has_value, bit, differs, tally}
 use Rattle.filter.proofs.Octets.{bit_at}
-use Rattle.filter.proofs.Values.{tally_le}
 use Rattle.icp.specs.declared.contents.Change.{Change}
 use Rattle.icp.specs.Contents.{entry_octets}
 use Rattle.icp.specs.Writing.{begins, put_at, changed, listed}
@@ -94,9 +93,6 @@ module _ (a b : List ℕ) where
 
   pub longer : (n : ℕ) → differs a b n ≡ true → length (changed a b (n + 1)) ≡ length (changed a b n) + 1
   longer n d = ap length (changed_more n d) ∙ length_push (changed a b n) (item n)
-
-  pub changed_few : (n : ℕ) → length (changed a b n) ≤ n
-  changed_few n = let l = length_changed n in let t = tally_le (differs a b) n in omega arith
 
   -- one position further on, with an entry or without
   module _ (xs : List ℕ) (n at next : ℕ) (now then : List ℕ) (at_is : at ≡ 32 + 4 * length (changed a b n)) (now_is : now ≡ listed xs a b n) where
