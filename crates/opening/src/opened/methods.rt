@@ -120,7 +120,10 @@ impl<'m> Incoming<'m> {
         ensures { result ≡ wrong_entries self.entry.opener self.entry.message.now }
     {
         let entries = Entries { rest: self.rest() };
-        self.kind() == UpdateKind::Changes && !rising(entries, self.opener.size.positions())
+        match self.kind() {
+            UpdateKind::Changes => !rising(entries, self.opener.size.positions()),
+            UpdateKind::Whole => false,
+        }
     }
 
     // The checks of its body.
