@@ -1,4 +1,4 @@
--- Opcodes told by their numbers.
+-- Numbers that no opcode has.
 use Rattle.std.proofs.Common.{◌≡◌, ℕ, Bool, true, false, ◌||◌, ◌&&◌, eqb, leb, refl, sym, arith}
 use Rattle.std.proofs.lemmas.Bool.{ne_eqb, leb-true}
 use Rattle.icp.specs.declared.opcode.Opcode.{Opcode}
@@ -8,17 +8,6 @@ use Rattle.opening.specs.declared.opener.Call.{Call}
 use Rattle.opening.specs.declared.opener.Call.TheVariants.{Update, Answer, Query, Reply}
 use Rattle.opening.specs.Reading.{opens}
 
--- only one opcode is that of a hit
-pub not_hit : (o : Opcode) → (o ≡ opcode.Hit → ⊥) → eqb (opcode_number o) 2 ≡ false
-not_hit opcode.Query other = refl
-not_hit opcode.Hit other = absurd (other refl)
-not_hit opcode.Miss other = refl
-not_hit opcode.Changes other = refl
-not_hit opcode.Whole other = refl
-not_hit opcode.Acknowledgement other = refl
-not_hit opcode.CallForWhole other = refl
-
--- numbers that no opcode has
 module _ (n : ℕ) (unknown : (o : Opcode) → opcode_number o ≡ n → ⊥) where
   not_of : (o : Opcode) → eqb n (opcode_number o) ≡ false
   not_of o = ne_eqb n (opcode_number o) (λ e. unknown o (sym e))
