@@ -6,7 +6,6 @@ use Rattle.icp.specs.declared.refusals.MessageFault.TheVariants.{Name, Reply}
 use Rattle.icp.specs.Faults.{refuse}
 use Rattle.icp.specs.Types.{reply_as}
 use Rattle.opening.specs.Reading.{all_but_last, other_query, request_in, reply_in}
-use Rattle.opening.proofs.Opcodes.{not_hit}
 use Rattle.opening.proofs.opener.Opener.open_reply.Goals as goal
 
 pub returns-in_err-header : goal.returns-in_err-header
