@@ -1,8 +1,6 @@
-use Rattle.std.proofs.Common.{◌≡◌, true, false, drop, None, sym, ◌∙◌, arith, rules}
-use Rattle.std.proofs.lemmas.Grind.{common_steps}
-use Rattle.std.proofs.lemmas.Bool.Decides.{nat_tests}
+use Rattle.std.proofs.Common.{◌≡◌, true, false, drop, None, rules}
 use Rattle.std.proofs.lemmas.Result.{err_from_is_err_and}
-use Rattle.icp.specs.declared.refusals.MessageFault.TheVariants.{Name, Reply}
+use Rattle.icp.specs.declared.refusals.MessageFault.TheVariants.{Reply}
 use Rattle.icp.specs.Faults.{refuse}
 use Rattle.icp.specs.Types.{reply_as}
 use Rattle.opening.specs.Reading.{all_but_last, other_query, request_in, reply_in}
