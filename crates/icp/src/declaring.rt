@@ -130,13 +130,12 @@ pub fn write_declaration(
 ) -> Result<usize, MessageFault>
     ensures { MatchResult result (λ n. (declaration_refusal sender earlier after.now.size.positions (length out.old) ≡ Nothing) × Written after.now.size.positions (declaration sender earlier after.now.size.positions before.now.size.positions before.now.octets.items after.now.octets.items) out.old out.new n) (λ f. (declaration_refusal sender earlier after.now.size.positions (length out.old) ≡ Just f) × (out.new ≡ out.old)) }
 {
-    if earlier == 4294967295 {
+    let Some(version) = earlier.checked_add(1) else {
         return Err(MessageFault::LastVersion { house: sender });
-    }
+    };
     if out.len() < 32 + after.size().octets() {
         return Err(MessageFault::Output { house: sender });
     }
-    let version = earlier + 1;
     match ChangeList::between(before, after) {
         Some(list) => Ok(list.put(out, sender, version)),
         None => Ok(put_whole(out, sender, version, after)),
