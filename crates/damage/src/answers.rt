@@ -1,6 +1,6 @@
 // What opening answered: how often each number came, and a digest of everything.
 use fault::Refusal;
-use icp::{AnswerKind, MessageFault, ReplyKind};
+use icp::{Answer, AnswerKind, MessageFault, Query, Reply, ReplyKind};
 use opening::{Opened, Opener, UpdateKind};
 
 // Counts by the number of the refusal, 0 where a message was opened, and FNV-1a of all answers.
@@ -8,6 +8,11 @@ use opening::{Opened, Opener, UpdateKind};
 pub struct Answers {
     counts: [u32; 32],
     digest: u64,
+}
+
+// An opened message, whose parts go into the digest.
+trait Noted {
+    fn note(&self, answers: &mut Answers);
 }
 
 impl Answers {
@@ -18,9 +23,9 @@ impl Answers {
         }
     }
 
-    // How often a number came.
-    pub(crate) fn count(&self, number: usize) -> u32 {
-        if number < 32 { self.counts[number] } else { 0 }
+    // How often each number came.
+    pub(crate) fn counts(&self) -> &[u32] {
+        &self.counts
     }
 
     pub(crate) fn digest(&self) -> u64 {
@@ -31,101 +36,93 @@ impl Answers {
         self.digest = (self.digest ^ octet as u64).wrapping_mul(0x100000001b3);
     }
 
-    fn note_number(&mut self, number: u32) {
-        for octet in number.to_be_bytes() {
-            self.note(octet);
-        }
-    }
-
     fn note_octets(&mut self, octets: &[u8]) {
         for octet in octets {
             self.note(*octet);
         }
     }
 
+    fn note_number(&mut self, number: u32) {
+        self.note_octets(&number.to_be_bytes());
+    }
+
     fn tally(&mut self, number: u8) {
-        let at = (number & 31) as usize;
-        let count = self.counts[at];
-        self.counts[at] = count.saturating_add(1);
+        let count = &mut self.counts[(number & 31) as usize];
+        *count = count.saturating_add(1);
         self.note(number);
     }
 
-    fn refused(&mut self, refusal: MessageFault) {
-        let fault = refusal.fault();
-        self.tally(fault.number);
-        self.note(fault.layer.number());
-        self.note_number(fault.house);
-        self.note_number(fault.version);
-    }
-
-    // An update, entry by entry or octet by octet.
-    fn updated(&mut self, update: Opened<'_>) {
-        self.tally(0);
-        self.note_number(update.sender());
-        self.note_number(update.version());
-        match update.kind() {
-            UpdateKind::Changes => {
-                for i in 0..1000 {
-                    if let Some(change) = update.entry(i) {
-                        self.note_number(change.position);
-                        self.note(u8::from(change.value));
-                    }
-                }
-            }
-            UpdateKind::Whole => self.note_octets(update.rest()),
-        }
-    }
-
-    // Opens a message as an answer.
-    fn open_answer(&mut self, opener: &Opener, message: &[u8]) {
-        match opener.open_answer(message) {
-            Ok(answer) => {
+    // What a call answered.
+    fn opened<T: Noted + Drop>(&mut self, answer: Result<T, MessageFault>) {
+        match answer {
+            Ok(message) => {
                 self.tally(0);
-                self.note(match answer.kind {
-                    AnswerKind::Acknowledgement => 0,
-                    AnswerKind::CallForWhole => 1,
-                });
-                self.note_number(answer.sender);
-                self.note_number(answer.held);
-                self.note_number(answer.owner);
+                message.note(self);
             }
-            Err(refusal) => self.refused(refusal),
-        }
-    }
-
-    // Opens a message as a query.
-    fn open_query(&mut self, opener: &Opener, message: &[u8]) {
-        match opener.open_query(message) {
-            Ok(query) => {
-                self.tally(0);
-                self.note_number(query.sender);
-                self.note_number(query.request);
-                self.note_octets(query.name);
+            Err(refusal) => {
+                let fault = refusal.fault();
+                self.tally(fault.number);
+                self.note(fault.layer.number());
+                self.note_number(fault.house);
+                self.note_number(fault.version);
             }
-            Err(refusal) => self.refused(refusal),
         }
     }
 
     // Opens a message in every way.
     pub(crate) fn open(&mut self, opener: &Opener, request: u32, name: &[u8], message: &[u8]) {
-        match opener.open_update(message) {
-            Ok(update) => self.updated(update),
-            Err(refusal) => self.refused(refusal),
-        }
-        self.open_answer(opener, message);
-        self.open_query(opener, message);
-        match opener.open_reply(request, name, message) {
-            Ok(reply) => {
-                self.tally(0);
-                self.note(match reply.kind {
-                    ReplyKind::Hit => 1,
-                    ReplyKind::Miss => 0,
-                });
-                self.note_number(reply.sender);
-                self.note_number(reply.request);
-                self.note_octets(reply.name);
+        self.opened(opener.open_update(message));
+        self.opened(opener.open_answer(message));
+        self.opened(opener.open_query(message));
+        self.opened(opener.open_reply(request, name, message));
+    }
+}
+
+// Entry by entry, or octet by octet.
+impl Noted for Opened<'_> {
+    fn note(&self, answers: &mut Answers) {
+        answers.note_number(self.sender());
+        answers.note_number(self.version());
+        match self.kind() {
+            UpdateKind::Changes => {
+                for change in self.changes() {
+                    answers.note_number(change.position);
+                    answers.note(u8::from(change.value));
+                }
             }
-            Err(refusal) => self.refused(refusal),
+            UpdateKind::Whole => answers.note_octets(self.rest()),
         }
+    }
+}
+
+impl Noted for Answer {
+    fn note(&self, answers: &mut Answers) {
+        answers.note(match self.kind {
+            AnswerKind::Acknowledgement => 0,
+            AnswerKind::CallForWhole => 1,
+        });
+        answers.note_number(self.sender);
+        answers.note_number(self.held);
+        answers.note_number(self.owner);
+    }
+}
+
+impl Noted for Query<'_> {
+    fn note(&self, answers: &mut Answers) {
+        answers.note_number(self.sender);
+        answers.note_number(self.request);
+        answers.note_octets(self.name);
+    }
+}
+
+impl Noted for Reply<'_> {
+    fn note(&self, answers: &mut Answers) {
+        answers.note(match self.kind {
+            ReplyKind::Hit => 1,
+            ReplyKind::Miss => 0,
+        });
+        answers.note_number(self.sender);
+        answers.note_number(self.request);
+        answers.note_octets(self.name);
     }
 }

@@ -8,6 +8,31 @@ use icp::{
 };
 use std::alloc::{AllocError, Global};
 
+// What message comes next.
+#[derive(Clone, Copy)]
+enum Kind {
+    Declaration,
+    Whole,
+    Answer(AnswerKind),
+    Query,
+    Reply(ReplyKind),
+}
+
+// The kinds as they are drawn, declarations twice as often as the others.
+const KINDS: [Kind; 8] = [
+    Kind::Declaration,
+    Kind::Declaration,
+    Kind::Whole,
+    Kind::Answer(AnswerKind::Acknowledgement),
+    Kind::Answer(AnswerKind::CallForWhole),
+    Kind::Query,
+    Kind::Reply(ReplyKind::Hit),
+    Kind::Reply(ReplyKind::Miss),
+];
+
+// The siblings as they are drawn, house 3 twice as often as the others.
+const SIBLINGS: [u32; 4] = [1, 3, 4, 3];
+
 // A catalogue, the summary of it declared before, and the query that is open.
 #[derive(Drop)]
 pub struct Catalogue {
@@ -39,8 +64,7 @@ impl Catalogue {
     fn ask(&mut self, random: &mut Random) -> anyhow::Result<()> {
         self.name.clear();
         for _ in 0..1 + random.below(20) {
-            let letter = 97 + (random.below(26) & 0x1f) as u8;
-            self.name.push(letter)?;
+            self.name.push(b'a' + random.below(26) as u8)?;
         }
         self.request = random.below(9);
         Ok(())
@@ -66,54 +90,39 @@ impl Catalogue {
     }
 
     // Writes a message of a kind from a sibling.
-    fn write(&mut self, random: &mut Random, kind: u32) -> Result<usize, MessageFault> {
-        let sender = [1, 3, 4, 3][(random.below(4) & 3) as usize];
+    fn write(&mut self, random: &mut Random, kind: Kind) -> Result<usize, MessageFault> {
+        let sender = random.pick(&SIBLINGS);
         let request = self.request;
+        let name = self.name.as_slice();
+        let out = self.out.as_mut_slice();
         match kind {
-            0 | 1 => self.declare(random, sender),
-            2 => write_whole(
-                sender,
-                request.saturating_add(1),
-                &self.after,
-                self.out.as_mut_slice(),
-            ),
-            3 | 4 => {
-                let kind = if kind == 3 {
-                    AnswerKind::Acknowledgement
-                } else {
-                    AnswerKind::CallForWhole
-                };
+            Kind::Declaration => self.declare(random, sender),
+            Kind::Whole => write_whole(sender, request.saturating_add(1), &self.after, out),
+            Kind::Answer(kind) => {
                 let answer = Answer {
                     kind,
                     sender,
                     held: request,
                     owner: 2,
                 };
-                answer.write(self.out.as_mut_slice())
+                answer.write(out)
             }
-            5 => {
-                let name = self.name.as_slice();
+            Kind::Query => {
                 let query = Query {
                     sender,
                     request,
                     name,
                 };
-                query.write(self.out.as_mut_slice())
+                query.write(out)
             }
-            _ => {
-                let name = self.name.as_slice();
-                let kind = if kind == 6 {
-                    ReplyKind::Hit
-                } else {
-                    ReplyKind::Miss
-                };
+            Kind::Reply(kind) => {
                 let reply = Reply {
                     kind,
                     sender,
                     request,
                     name,
                 };
-                reply.write(self.out.as_mut_slice())
+                reply.write(out)
             }
         }
     }
@@ -121,14 +130,10 @@ impl Catalogue {
     // The next message.
     pub(crate) fn message(&mut self, random: &mut Random) -> anyhow::Result<Vec<u8>> {
         self.ask(random)?;
-        let kind = random.below(8);
+        let kind = random.pick(&KINDS);
         let Ok(length) = self.write(random, kind) else {
             return Err(anyhow!("a good message was not written"));
         };
-        let mut message = Vec::new(self.heap);
-        for octet in self.out.iter().take(length) {
-            message.push(*octet)?;
-        }
-        Ok(message)
+        Ok(self.out.iter().take(length).copied().collect(self.heap)?)
     }
 }

@@ -1,70 +1,92 @@
 // Messages damaged.
 use crate::random::Random;
 
-// The opcodes that damage puts first.
+// The octets that damage puts first: every opcode, and one that is none.
 const OPCODES: [u8; 8] = [0, 1, 2, 3, 20, 30, 31, 32];
 
+// What is done to a message.
+#[derive(Clone, Copy)]
+enum Harm {
+    Flip,
+    Cut,
+    Grow,
+    Refill,
+    Exchange,
+    Opcode,
+    End,
+}
+
+const HARMS: [Harm; 7] = [
+    Harm::Flip,
+    Harm::Cut,
+    Harm::Grow,
+    Harm::Refill,
+    Harm::Exchange,
+    Harm::Opcode,
+    Harm::End,
+];
+
 // A place in a message, or 0 where it is empty.
-fn place(message: &Vec<u8>, random: &mut Random) -> usize {
-    let n = message.len().min(60000) as u32;
-    random.below(n) as usize
+fn place(message: &[u8], random: &mut Random) -> usize {
+    random.below(message.len().min(60000) as u32) as usize
 }
 
 // Writes an octet at a place, if there is one.
-fn set(message: &mut Vec<u8>, at: usize, octet: u8) {
-    if at < message.len() {
-        message[at] = octet;
+fn set(message: &mut [u8], at: usize, octet: u8) {
+    if let Some(place) = message.get_mut(at) {
+        *place = octet;
     }
 }
 
-// The octet at a place, or 0.
-fn get(message: &Vec<u8>, at: usize) -> u8 {
-    message.get(at).copied().unwrap_or(0)
+// Some bits of an octet turn.
+fn flip(message: &mut [u8], random: &mut Random) {
+    let at = place(message, random);
+    let bits = random.octet();
+    if let Some(octet) = message.get_mut(at) {
+        *octet ^= bits;
+    }
 }
 
 // Two octets change places.
-fn exchange(message: &mut Vec<u8>, random: &mut Random) {
+fn exchange(message: &mut [u8], random: &mut Random) {
     let i = place(message, random);
     let j = place(message, random);
-    let x = get(message, i);
-    let y = get(message, j);
-    set(message, i, y);
-    set(message, j, x);
+    if i.max(j) < message.len() {
+        message.swap(i, j);
+    }
 }
 
 // A field of four octets becomes a small number.
-fn refill(message: &mut Vec<u8>, random: &mut Random) {
+fn refill(message: &mut [u8], random: &mut Random) {
     let at = 4 * random.below(9) as usize;
-    let number = random.below(6);
-    for (k, octet) in number.to_be_bytes().iter().enumerate() {
-        set(message, at + k, *octet);
+    let number = random.below(6).to_be_bytes();
+    for (octet, new) in message.iter_mut().skip(at).zip(&number) {
+        *octet = *new;
     }
 }
 
 // One damage.
 fn hurt(message: &mut Vec<u8>, random: &mut Random) -> anyhow::Result<()> {
-    match random.below(7) {
-        0 => {
-            let at = place(message, random);
-            let octet = get(message, at) ^ random.octet();
-            set(message, at, octet);
-        }
-        1 => {
+    match random.pick(&HARMS) {
+        Harm::Flip => flip(message.as_mut_slice(), random),
+        Harm::Cut => {
             let less = 1 + random.below(6) as usize;
             let n = message.len();
             message.truncate(n.saturating_sub(less));
         }
-        2 => {
+        Harm::Grow => {
             for _ in 0..1 + random.below(5) {
                 message.push(random.octet())?;
             }
         }
-        3 => refill(message, random),
-        4 => exchange(message, random),
-        5 => set(message, 0, OPCODES[(random.below(8) & 7) as usize]),
-        _ => {
-            let at = message.len().saturating_sub(1);
-            set(message, at, random.octet());
+        Harm::Refill => refill(message.as_mut_slice(), random),
+        Harm::Exchange => exchange(message.as_mut_slice(), random),
+        Harm::Opcode => set(message.as_mut_slice(), 0, random.pick(&OPCODES)),
+        Harm::End => {
+            let octet = random.octet();
+            if let Some(end) = message.last_mut() {
+                *end = octet;
+            }
         }
     }
     Ok(())
@@ -77,9 +99,9 @@ pub(crate) fn damage(message: &mut Vec<u8>, random: &mut Random) -> anyhow::Resu
     }
     if random.below(4) != 0 {
         let length = (message.len() & 0xffff) as u16;
-        let octets = length.to_be_bytes();
-        set(message, 2, octets[0]);
-        set(message, 3, octets[1]);
+        for (octet, new) in message.iter_mut().skip(2).zip(&length.to_be_bytes()) {
+            *octet = *new;
+        }
     }
     Ok(())
 }

@@ -1,5 +1,5 @@
 // Numbers without an order, the same in every run.
-ghost use Rattle.std.specs.Prelude.{◌<◌};
+ghost use Rattle.std.specs.Prelude.{◌<◌, ◌^◌, length};
 
 #[derive(Drop)]
 pub struct Random {
@@ -21,6 +21,14 @@ impl Random {
 
     // An octet.
     pub(crate) fn octet(&mut self) -> u8 {
-        (self.below(256) & 0xff) as u8
+        self.below(256) as u8
+    }
+
+    // One of some values.
+    pub(crate) fn pick<T: Copy>(&mut self, values: &[T]) -> T
+        requires some { 0 < length values.now }
+        requires few { length values.now < 2 ^ 32 }
+    {
+        values[self.below(values.len() as u32) as usize]
     }
 }

@@ -5,7 +5,6 @@ use Rattle.std.specs.List.{flat_map}
 use Rattle.std.proofs.lemmas.List.{append-nil, length-take-le, length_push, take-append-drop}
 use Rattle.filter.specs.Summaries.{has_value, bit, differs, tally}
 use Rattle.filter.proofs.Octets.{bit_at}
-use Rattle.filter.proofs.Values.{tally_le}
 use Rattle.icp.specs.declared.contents.Change.{Change}
 use Rattle.icp.specs.Contents.{entry_octets}
 use Rattle.icp.specs.Writing.{begins, put_at, changed, listed}
@@ -95,25 +94,20 @@ module _ (a b : List ℕ) where
   pub longer : (n : ℕ) → differs a b n ≡ true → length (changed a b (n + 1)) ≡ length (changed a b n) + 1
   longer n d = ap length (changed_more n d) ∙ length_push (changed a b n) (item n)
 
-  pub changed_few : (n : ℕ) → length (changed a b n) ≤ n
-  changed_few n = let l = length_changed n in let t = tally_le (differs a b) n in omega arith
-
   -- one position further on, with an entry or without
-  module _ (n at next : ℕ) (now then : List ℕ) (at_is : at ≡ 32 + 4 * length (changed a b n)) where
-    pub step_more : (e : Change) (octets : List ℕ) → differs a b n ≡ true → e ≡ item n → octets ≡ entry_octets e → next ≡ at + 4 → then ≡ put_at now at octets
-        → (next ≡ 32 + 4 * length (changed a b (n + 1))) × ((xs : List ℕ) → 32 ≤ length xs → now ≡ listed xs a b n → then ≡ listed xs a b (n + 1))
-    step_more e octets d is octets-is next-is then_is =
-        let l = longer n d in (
-          omega arith,
-          (λ xs h w. then_is ∙ (λ j. put_at (w j) at (octets-is j)) ∙ listed_more xs n at e h d is at_is),
-        )
+  module _ (xs : List ℕ) (n at next : ℕ) (now then : List ℕ) (at_is : at ≡ 32 + 4 * length (changed a b n)) (now_is : now ≡ listed xs a b n) where
+    pub step_more : (e : Change) (octets : List ℕ) → 32 ≤ length xs → differs a b n ≡ true → e ≡ item n → octets ≡ entry_octets e → next ≡ at + 4 → then ≡ put_at now at octets
+        → (next ≡ 32 + 4 * length (changed a b (n + 1))) × (then ≡ listed xs a b (n + 1))
+    step_more e octets h d is octets-is next-is then_is =
+        let l = longer n d in
+        (omega arith, then_is ∙ (λ j. put_at (now_is j) at (octets-is j)) ∙ listed_more xs n at e h d is at_is)
 
     pub step_same : differs a b n ≡ false → next ≡ at → then ≡ now
-        → (next ≡ 32 + 4 * length (changed a b (n + 1))) × ((xs : List ℕ) → 32 ≤ length xs → now ≡ listed xs a b n → then ≡ listed xs a b (n + 1))
+        → (next ≡ 32 + 4 * length (changed a b (n + 1))) × (then ≡ listed xs a b (n + 1))
     step_same d next-is then_is =
         let same = changed_same n d in (
           next-is ∙ at_is ∙ sym (ap (λ es. 32 + 4 * length es) same),
-          (λ xs h w. then_is ∙ w ∙ sym (ap (λ es. begins (take 32 xs ++ flat_map entry_octets es) xs) same)),
+          then_is ∙ now_is ∙ sym (ap (λ es. begins (take 32 xs ++ flat_map entry_octets es) xs) same),
         )
 
   -- no change in a run of positions where they agree

@@ -1,6 +1,6 @@
 -- Octets put into an output, one part after another.
-use Rattle.std.proofs.Common.{◌≡◌, ℕ, ◌+◌, ◌-◌, ◌≤◌, List, ◌++◌, length, take, drop, sym, refl, ap, ◌∙◌, append_assoc, arith, length-append}
-use Rattle.std.proofs.lemmas.List.{take_at, drop_at, drop-drop, length-take-le}
+use Rattle.std.proofs.Common.{◌≡◌, ℕ, ◌+◌, ◌-◌, ◌≤◌, List, ◌++◌, length, drop, sym, refl, ap, ◌∙◌, append_assoc, arith, length-append}
+use Rattle.std.proofs.lemmas.List.{take_at, drop_at, drop-drop}
 use Rattle.icp.specs.Contents.{Content, opcode_of, request_of, data_of, sender_of, body_of, header, written}
 use Rattle.icp.specs.Writing.{Written, begins, put_at}
 
@@ -19,21 +19,6 @@ put_next p ys xs =
 -- the same, at a place and an output that are known to be so
 pub put_on : (p ys xs now : List ℕ) (at : ℕ) → now ≡ begins p xs → at ≡ length p → put_at now at ys ≡ begins (p ++ ys) xs
 put_on p ys xs now at is where-is = (λ j. put_at (is j) (where-is j) ys) ∙ put_next p ys xs
-
--- a part put anywhere
-pub put_is : (xs ys : List ℕ) (at : ℕ) → at ≤ length xs → put_at xs at ys ≡ begins (take at xs ++ ys) xs
-put_is xs ys at h =
-    let n : length (take at xs ++ ys) ≡ at + length ys = length-append (take at xs) ys ∙ ap (λ k. k + length ys) (length-take-le at xs h) in
-    sym (append_assoc (take at xs) ys (drop (at + length ys) xs)) ∙ ap (λ k. (take at xs ++ ys) ++ drop k xs) (sym n)
-
--- two parts put one after the other are one part
-pub put_twice : (xs ys zs : List ℕ) (at : ℕ) → at ≤ length xs → put_at (put_at xs at ys) (at + length ys) zs ≡ put_at xs at (ys ++ zs)
-put_twice xs ys zs at h =
-    let p = take at xs ++ ys in
-    let n : at + length ys ≡ length p = sym (length-append (take at xs) ys ∙ ap (λ k. k + length ys) (length-take-le at xs h)) in
-    put_on p zs xs (put_at xs at ys) (at + length ys) (put_is xs ys at h) n
-    ∙ ap (λ z. begins z xs) (append_assoc (take at xs) ys zs)
-    ∙ sym (put_is xs (ys ++ zs) at h)
 
 -- a header and a body are the message of their content
 pub message_is : (m : ℕ) (c : Content) (h b xs out : List ℕ) (n : ℕ)

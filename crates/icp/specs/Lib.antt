@@ -1,4 +1,5 @@
 pub mod Numbers
+pub mod Opcodes
 pub mod Faults
 pub mod Contents
 pub mod Names

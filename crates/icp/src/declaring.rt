@@ -1,12 +1,13 @@
 // Versions of a summary written: what changed, or the whole.
-ghost use Rattle.std.specs.Prelude.{◌≡◌, ℕ, ◌+◌, ◌*◌, ◌/◌, ◌<◌, ◌≤◌, true, false, List, ◌++◌, length, Some as Just, None as Nothing, MatchOption, MatchResult};
+ghost use Rattle.std.specs.Prelude.{◌≡◌, ◌+◌, ◌*◌, ◌/◌, ◌<◌, ◌≤◌, true, false, length, Some as Just, None as Nothing, MatchOption, MatchResult};
 ghost use Rattle.filter.specs.Summaries.{has_value, differs, tally};
-ghost use Rattle.icp.specs.Contents.{changes, whole as full, entry_octets, filter_fields};
-ghost use Rattle.icp.specs.Writing.{Written, begins, listable, changed, listed, declaration, declaration_refusal, whole_refusal};
+ghost use Rattle.icp.specs.Contents.{changes, whole as full, entry_octets};
+ghost use Rattle.icp.specs.Writing.{Written, listable, changed, listed, declaration, declaration_refusal, whole_refusal};
 
-use crate::contents::Change;
+use crate::contents::{Change, Header};
+use crate::opcode::Opcode;
 use crate::refusals::MessageFault;
-use crate::writing::{filter_fields, header, put};
+use crate::writing::{filter_fields, put, put_parts};
 use filter::Summary;
 
 impl Change {
@@ -28,50 +29,74 @@ fn has_value(octet: u8, k: u32) -> bool
     (octet >> k) % 2 == 1
 }
 
-// Writes an entry for each of the eight positions of octet i in which two summaries differ, and answers where the next one goes.
-fn put_octet(out: &mut [u8], at: usize, before: &[u8], after: &[u8], i: usize) -> usize
-    requires in_before { i < length before.now }
-    requires in_after { i < length after.now }
-    requires small { i < 8192 }
-    requires place { at ≡ 32 + 4 * length (changed before.now after.now (8 * i)) }
-    requires room { 32 + 4 * length (changed before.now after.now (8 * i + 8)) ≤ length out.old }
-    ensures next { result ≡ 32 + 4 * length (changed before.now after.now (8 * i + 8)) }
-    ensures written { (xs : List ℕ) → 32 ≤ length xs → out.old ≡ listed xs before.now after.now (8 * i) → out.new ≡ listed xs before.now after.now (8 * i + 8) }
-{
-    let mut next = at;
-    for k in 0..8 {
-        let value = has_value(after[i], k);
-        if has_value(before[i], k) != value {
-            let position = 8 * i as u32 + k;
-            put(out, next, &Change { position, value }.octets());
-            next += 4;
-        }
-    }
-    next
+// Two summaries of one size, and in how many positions they differ: so few that a list of them is the shorter message.
+#[derive(Clone, Copy)]
+struct ChangeList<'s> {
+    before: &'s Summary,
+    after: &'s Summary,
+    count: u32,
+    ghost one_size: { before.now.size.positions ≡ after.now.size.positions },
+    ghost counted: { count ≡ tally (differs before.now.octets.items after.now.octets.items) after.now.size.positions },
+    ghost short: { 4 * count < after.now.size.positions / 8 },
 }
 
-// Writes, behind the first 32 octets, an entry for each position in which two summaries differ.
-fn put_changes(out: &mut [u8], before: &[u8], after: &[u8])
-    requires same_length { length before.now ≡ length after.now }
-    requires small { length after.now ≤ 8192 }
-    requires room { 32 + 4 * length (changed before.now after.now (8 * length after.now)) ≤ length out.old }
-    ensures { out.new ≡ listed out.old before.now after.now (8 * length after.now) }
-{
-    let mut at = 32;
-    for i in 0..after.len() {
-        if before[i] != after[i] {
-            at = put_octet(out, at, before, after, i);
+impl<'s> ChangeList<'s> {
+    // The changes between two summaries, where they are few enough.
+    fn between(before: &'s Summary, after: &'s Summary) -> Option<ChangeList<'s>>
+        ensures { MatchOption result (listable after.now.size.positions before.now.size.positions before.now.octets.items after.now.octets.items ≡ false) (λ l. (listable after.now.size.positions before.now.size.positions before.now.octets.items after.now.octets.items ≡ true) × (l.before.now ≡ before.now) × (l.after.now ≡ after.now)) }
+    {
+        let count = before.differences(after)?;
+        if 4 * (count as usize) < after.size().octets() {
+            Some(ChangeList {
+                before,
+                after,
+                count,
+            })
+        } else {
+            None
         }
     }
-}
 
-// Writes the header and the fields of the filter of an update.
-fn put_head(out: &mut [u8], head: &[u8; 20], positions: u32, count: u32)
-    requires { 32 ≤ length out.old }
-    ensures { out.new ≡ begins (head.now ++ filter_fields positions count) out.old }
-{
-    put(out, 0, head);
-    put(out, 20, &filter_fields(positions, count));
+    // Writes the entries, behind the first 32 octets.
+    fn put_entries(self, out: &mut [u8])
+        requires { 32 + 4 * self.count ≤ length out.old }
+        ensures { out.new ≡ listed out.old self.entry.before.now.octets.items self.entry.after.now.octets.items self.entry.after.now.size.positions }
+    {
+        let pairs = self.before.octets().iter().zip(self.after.octets());
+        let mut at = 32;
+        for (i, (before, after)) in pairs.enumerate() {
+            if before == after {
+                continue;
+            }
+            for k in 0..8 {
+                let value = has_value(*after, k);
+                if has_value(*before, k) != value {
+                    let position = 8 * i as u32 + k;
+                    put(out, at, &Change { position, value }.octets());
+                    at += 4;
+                }
+            }
+        }
+    }
+
+    // Writes the version of the second summary by what changed, and answers its length.
+    fn put(self, out: &mut [u8], sender: u32, version: u32) -> usize
+        requires some_version { 1 ≤ version }
+        requires room { 32 + 4 * self.count ≤ length out.old }
+        ensures { Written self.entry.after.now.size.positions (changes sender version (changed self.entry.before.now.octets.items self.entry.after.now.octets.items self.entry.after.now.size.positions)) out.old out.new result }
+    {
+        let length = 32 + 4 * self.count as usize;
+        let header = Header {
+            opcode: Opcode::Changes,
+            request: version,
+            option: version - 1,
+            sender,
+        };
+        let filter = filter_fields(self.after.size().positions(), self.count);
+        put_parts(out, &[&header.octets(length as u16), &filter]);
+        self.put_entries(out);
+        length
+    }
 }
 
 // Writes a version whole, and answers its length.
@@ -81,45 +106,18 @@ fn put_whole(out: &mut [u8], sender: u32, version: u32, summary: &Summary) -> us
 {
     let size = summary.size();
     let length = 32 + size.octets();
-    let head = header(30, length as u16, version, 0, sender);
-    put_head(out, &head, size.positions(), 0);
-    put(out, 32, summary.octets());
+    let header = Header {
+        opcode: Opcode::Whole,
+        request: version,
+        option: 0,
+        sender,
+    };
+    let filter = filter_fields(size.positions(), 0);
+    put_parts(
+        out,
+        &[&header.octets(length as u16), &filter, summary.octets()],
+    );
     length
-}
-
-// Writes a version by what changed, and answers its length.
-fn put_list(
-    out: &mut [u8],
-    sender: u32,
-    version: u32,
-    count: u32,
-    before: &Summary,
-    after: &Summary,
-) -> usize
-    requires some_version { 1 ≤ version }
-    requires same_size { before.now.size.positions ≡ after.now.size.positions }
-    requires counted { count ≡ tally (differs before.now.octets.items after.now.octets.items) after.now.size.positions }
-    requires short { 4 * count < after.now.size.positions / 8 }
-    requires room { 32 + 4 * count ≤ length out.old }
-    ensures { Written after.now.size.positions (changes sender version (changed before.now.octets.items after.now.octets.items after.now.size.positions)) out.old out.new result }
-{
-    let length = 32 + 4 * count as usize;
-    let head = header(20, length as u16, version, version - 1, sender);
-    put_head(out, &head, after.size().positions(), count);
-    put_changes(out, before.octets(), after.octets());
-    length
-}
-
-// The number of changes between two summaries, where they are few enough for a list.
-fn few_changes(before: &Summary, after: &Summary) -> Option<u32>
-    ensures { MatchOption result (listable after.now.size.positions before.now.size.positions before.now.octets.items after.now.octets.items ≡ false) (λ n. (listable after.now.size.positions before.now.size.positions before.now.octets.items after.now.octets.items ≡ true) × (before.now.size.positions ≡ after.now.size.positions) × (n ≡ tally (differs before.now.octets.items after.now.octets.items) after.now.size.positions) × (4 * n < after.now.size.positions / 8)) }
-{
-    let count = before.differences(after)?;
-    if 4 * (count as usize) < after.size().octets() {
-        Some(count)
-    } else {
-        None
-    }
 }
 
 // Writes the version that follows an earlier one: what changed since the summary declared before, or the whole. The output has to have room for the whole; its rest remains.
@@ -132,15 +130,14 @@ pub fn write_declaration(
 ) -> Result<usize, MessageFault>
     ensures { MatchResult result (λ n. (declaration_refusal sender earlier after.now.size.positions (length out.old) ≡ Nothing) × Written after.now.size.positions (declaration sender earlier after.now.size.positions before.now.size.positions before.now.octets.items after.now.octets.items) out.old out.new n) (λ f. (declaration_refusal sender earlier after.now.size.positions (length out.old) ≡ Just f) × (out.new ≡ out.old)) }
 {
-    if earlier == 4294967295 {
+    let Some(version) = earlier.checked_add(1) else {
         return Err(MessageFault::LastVersion { house: sender });
-    }
+    };
     if out.len() < 32 + after.size().octets() {
         return Err(MessageFault::Output { house: sender });
     }
-    let version = earlier + 1;
-    match few_changes(before, after) {
-        Some(count) => Ok(put_list(out, sender, version, count, before, after)),
+    match ChangeList::between(before, after) {
+        Some(list) => Ok(list.put(out, sender, version)),
         None => Ok(put_whole(out, sender, version, after)),
     }
 }

@@ -3,9 +3,11 @@
 
 mod contents;
 mod declaring;
+mod opcode;
 mod refusals;
 mod writing;
 
-pub use contents::{Answer, AnswerKind, Change, Query, Reply, ReplyKind};
+pub use contents::{Answer, AnswerKind, Change, Header, Query, Reply, ReplyKind};
 pub use declaring::{write_declaration, write_whole};
+pub use opcode::{Opcode, UnknownOpcode};
 pub use refusals::MessageFault;

@@ -40,34 +40,19 @@ impl MessageFault {
         ensures { result ≡ (message_fault self).number }
     {
         match self {
-            MessageFault::LastVersion { house: _ } => 12,
-            MessageFault::NothingDeclared { house: _ } => 13,
-            MessageFault::Output { house: _ } => 14,
-            MessageFault::Length { house: _ } => 15,
-            MessageFault::Header { house: _ } => 16,
-            MessageFault::Opcode { house: _ } => 17,
-            MessageFault::Sender {
-                house: _,
-                version: _,
-            } => 18,
-            MessageFault::Filter {
-                house: _,
-                version: _,
-            } => 19,
-            MessageFault::Body {
-                house: _,
-                version: _,
-            } => 20,
-            MessageFault::Version {
-                house: _,
-                version: _,
-            } => 21,
-            MessageFault::Position {
-                house: _,
-                version: _,
-            } => 22,
-            MessageFault::Name { house: _ } => 29,
-            MessageFault::Reply { house: _ } => 30,
+            MessageFault::LastVersion { .. } => 12,
+            MessageFault::NothingDeclared { .. } => 13,
+            MessageFault::Output { .. } => 14,
+            MessageFault::Length { .. } => 15,
+            MessageFault::Header { .. } => 16,
+            MessageFault::Opcode { .. } => 17,
+            MessageFault::Sender { .. } => 18,
+            MessageFault::Filter { .. } => 19,
+            MessageFault::Body { .. } => 20,
+            MessageFault::Version { .. } => 21,
+            MessageFault::Position { .. } => 22,
+            MessageFault::Name { .. } => 29,
+            MessageFault::Reply { .. } => 30,
         }
     }
 }
@@ -76,24 +61,23 @@ impl Refusal for MessageFault {
     ghost carries = { message_fault };
 
     fn fault(&self) -> Fault {
-        let number = self.number();
         let (house, version) = match *self {
-            MessageFault::Sender { house, version } => (house, version),
-            MessageFault::Filter { house, version } => (house, version),
-            MessageFault::Body { house, version } => (house, version),
-            MessageFault::Version { house, version } => (house, version),
-            MessageFault::Position { house, version } => (house, version),
-            MessageFault::LastVersion { house } => (house, 0),
-            MessageFault::NothingDeclared { house } => (house, 0),
-            MessageFault::Output { house } => (house, 0),
-            MessageFault::Length { house } => (house, 0),
-            MessageFault::Header { house } => (house, 0),
-            MessageFault::Opcode { house } => (house, 0),
-            MessageFault::Name { house } => (house, 0),
-            MessageFault::Reply { house } => (house, 0),
+            MessageFault::Sender { house, version }
+            | MessageFault::Filter { house, version }
+            | MessageFault::Body { house, version }
+            | MessageFault::Version { house, version }
+            | MessageFault::Position { house, version } => (house, version),
+            MessageFault::LastVersion { house }
+            | MessageFault::NothingDeclared { house }
+            | MessageFault::Output { house }
+            | MessageFault::Length { house }
+            | MessageFault::Header { house }
+            | MessageFault::Opcode { house }
+            | MessageFault::Name { house }
+            | MessageFault::Reply { house } => (house, 0),
         };
         Fault {
-            number,
+            number: self.number(),
             layer: Layer::Message,
             house,
             version,

@@ -1,10 +1,13 @@
 // Answers, queries and replies written.
-ghost use Rattle.std.specs.Prelude.{◌≡◌, ℕ, ◌+◌, ◌≤◌, length, Some as Just, None as Nothing, MatchResult};
+ghost use Rattle.std.specs.Prelude.{◌≡◌, ℕ, ◌+◌, ◌≤◌, ◌++◌, length, Some as Just, None as Nothing, MatchResult};
+ghost use Rattle.std.specs.List.{flat_map};
 ghost use Rattle.icp.specs.Contents.{header, filter_fields, text, query as asks};
+ghost use Rattle.icp.specs.Opcodes.{opcode_number};
 ghost use Rattle.icp.specs.Types.{answer_opcode, answer_says, reply_opcode, reply_as};
-ghost use Rattle.icp.specs.Writing.{Written, put_at, short_output, text_refusal};
+ghost use Rattle.icp.specs.Writing.{Written, begins, put_at, short_output, text_refusal};
 
-use crate::contents::{Answer, AnswerKind, Query, Reply, ReplyKind};
+use crate::contents::{Answer, AnswerKind, Header, Query, Reply, ReplyKind};
+use crate::opcode::Opcode;
 use crate::refusals::MessageFault;
 use store::good_name;
 
@@ -16,18 +19,33 @@ pub(crate) fn put(out: &mut [u8], at: usize, octets: &[u8])
     out[at..at + octets.len()].copy_from_slice(octets);
 }
 
-// The octets of a header.
-pub(crate) fn header(opcode: u8, length: u16, request: u32, option: u32, sender: u32) -> [u8; 20]
-    ensures { result ≡ header opcode length request option sender }
+// Copies parts into the first octets of an output, one after another.
+pub(crate) fn put_parts(out: &mut [u8], parts: &[&[u8]])
+    requires { length (flat_map (λ p. p.now) parts.now) ≤ length out.old }
+    ensures { out.new ≡ begins (flat_map (λ p. p.now) parts.now) out.old }
 {
-    let l = length.to_be_bytes();
-    let r = request.to_be_bytes();
-    let o = option.to_be_bytes();
-    let s = sender.to_be_bytes();
-    [
-        opcode, 2, l[0], l[1], r[0], r[1], r[2], r[3], 0, 0, 0, 0, o[0], o[1], o[2], o[3], s[0],
-        s[1], s[2], s[3],
-    ]
+    let mut at = 0;
+    for part in parts {
+        put(out, at, part);
+        at += part.len();
+    }
+}
+
+impl Header {
+    // The octets of the header, in a message of this length.
+    pub(crate) fn octets(self, length: u16) -> [u8; 20]
+        ensures { result ≡ header (opcode_number self.opcode) length self.request self.option self.sender }
+    {
+        let l = length.to_be_bytes();
+        let r = self.request.to_be_bytes();
+        let d = self.option.to_be_bytes();
+        let s = self.sender.to_be_bytes();
+        let op = self.opcode.number();
+        [
+            op, 2, l[0], l[1], r[0], r[1], r[2], r[3], 0, 0, 0, 0, d[0], d[1], d[2], d[3], s[0],
+            s[1], s[2], s[3],
+        ]
+    }
 }
 
 // The octets of an update's filter.
@@ -40,23 +58,23 @@ pub(crate) fn filter_fields(positions: u32, count: u32) -> [u8; 12]
 }
 
 impl AnswerKind {
-    fn opcode(self) -> u8
-        ensures { result ≡ answer_opcode self }
+    fn opcode(self) -> Opcode
+        ensures { opcode_number result ≡ answer_opcode self }
     {
         match self {
-            AnswerKind::Acknowledgement => 31,
-            AnswerKind::CallForWhole => 32,
+            AnswerKind::Acknowledgement => Opcode::Acknowledgement,
+            AnswerKind::CallForWhole => Opcode::CallForWhole,
         }
     }
 }
 
 impl ReplyKind {
-    fn opcode(self) -> u8
-        ensures { result ≡ reply_opcode self }
+    fn opcode(self) -> Opcode
+        ensures { opcode_number result ≡ reply_opcode self }
     {
         match self {
-            ReplyKind::Hit => 2,
-            ReplyKind::Miss => 3,
+            ReplyKind::Hit => Opcode::Hit,
+            ReplyKind::Miss => Opcode::Miss,
         }
     }
 }
@@ -69,37 +87,37 @@ impl Answer {
         if out.len() < 20 {
             return Err(MessageFault::Output { house: self.sender });
         }
-        let opcode = self.kind.opcode();
-        put(
-            out,
-            0,
-            &header(opcode, 20, self.held, self.owner, self.sender),
-        );
+        let header = Header {
+            opcode: self.kind.opcode(),
+            request: self.held,
+            option: self.owner,
+            sender: self.sender,
+        };
+        put_parts(out, &[&header.octets(20)]);
         Ok(20)
     }
 }
 
-// The length of a message in which a name follows so many octets.
-fn text_length(house: u32, head: u8, name: &[u8], room: usize) -> Result<usize, MessageFault>
-    ensures { MatchResult result (λ n. (text_refusal house head name.now room ≡ Nothing) × (n ≡ head + length name.now + 1) × (length name.now ≤ 128) × (n ≤ room)) (λ f. text_refusal house head name.now room ≡ Just f) }
+// Writes a message that ends in a name and a zero octet, with these octets between header and name, and answers its length.
+fn write_named(
+    out: &mut [u8],
+    head: Header,
+    between: &[u8],
+    name: &[u8],
+) -> Result<usize, MessageFault>
+    requires { length between.now ≤ 4 }
+    ensures { MatchResult result (λ n. (text_refusal head.sender (20 + length between.now) name.now (length out.old) ≡ Nothing) × (n ≡ 20 + length between.now + length name.now + 1) × (out.new ≡ begins (header (opcode_number head.opcode) n head.request head.option head.sender ++ (between.now ++ text name.now)) out.old)) (λ f. (text_refusal head.sender (20 + length between.now) name.now (length out.old) ≡ Just f) × (out.new ≡ out.old)) }
 {
+    let house = head.sender;
     if !good_name(name) {
         return Err(MessageFault::Name { house });
     }
-    let length = head as usize + name.len() + 1;
-    if room < length {
+    let length = 20 + between.len() + name.len() + 1;
+    if out.len() < length {
         return Err(MessageFault::Output { house });
     }
+    put_parts(out, &[&head.octets(length as u16), between, name, &[0]]);
     Ok(length)
-}
-
-// Writes a name and a zero octet.
-fn put_text(out: &mut [u8], at: usize, name: &[u8])
-    requires { at + length name.now + 1 ≤ length out.old }
-    ensures { out.new ≡ put_at out.old at (text name.now) }
-{
-    put(out, at, name);
-    put(out, at + name.len(), &[0]);
 }
 
 impl Query<'_> {
@@ -107,15 +125,13 @@ impl Query<'_> {
     pub fn write(&self, out: &mut [u8]) -> Result<usize, MessageFault>
         ensures { MatchResult result (λ n. (text_refusal self.now.sender 24 self.now.name.now (length out.old) ≡ Nothing) × ((m : ℕ) → Written m (asks self.now.sender self.now.request self.now.name.now) out.old out.new n)) (λ f. (text_refusal self.now.sender 24 self.now.name.now (length out.old) ≡ Just f) × (out.new ≡ out.old)) }
     {
-        let length = text_length(self.sender, 24, self.name, out.len())?;
-        put(
-            out,
-            0,
-            &header(1, length as u16, self.request, 0, self.sender),
-        );
-        put(out, 20, &self.sender.to_be_bytes());
-        put_text(out, 24, self.name);
-        Ok(length)
+        let header = Header {
+            opcode: Opcode::Query,
+            request: self.request,
+            option: 0,
+            sender: self.sender,
+        };
+        write_named(out, header, &self.sender.to_be_bytes(), self.name)
     }
 }
 
@@ -124,14 +140,12 @@ impl Reply<'_> {
     pub fn write(&self, out: &mut [u8]) -> Result<usize, MessageFault>
         ensures { MatchResult result (λ n. (text_refusal self.now.sender 20 self.now.name.now (length out.old) ≡ Nothing) × ((m : ℕ) → Written m (reply_as self.now.kind self.now.sender self.now.request self.now.name.now) out.old out.new n)) (λ f. (text_refusal self.now.sender 20 self.now.name.now (length out.old) ≡ Just f) × (out.new ≡ out.old)) }
     {
-        let length = text_length(self.sender, 20, self.name, out.len())?;
-        let opcode = self.kind.opcode();
-        put(
-            out,
-            0,
-            &header(opcode, length as u16, self.request, 0, self.sender),
-        );
-        put_text(out, 20, self.name);
-        Ok(length)
+        let header = Header {
+            opcode: self.kind.opcode(),
+            request: self.request,
+            option: 0,
+            sender: self.sender,
+        };
+        write_named(out, header, &[], self.name)
     }
 }

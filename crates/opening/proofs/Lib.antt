@@ -1,5 +1,6 @@
 pub mod Names
-pub mod Entries
+pub mod Opcodes
+pub mod ChangeLists
 pub mod Fields
 pub mod ReadsBack
 pub mod WritesBack

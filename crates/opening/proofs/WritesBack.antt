@@ -16,7 +16,7 @@ use Rattle.opening.specs.Reading.{least, stranger, wrong_length, wrong_header, w
 use Rattle.icp.specs.Names.{nameable}
 use Rattle.icp.specs.Faults.{refuse}
 use Rattle.opening.specs.Laws.{Octets, Sibling, Versioned, Held, Asked, Proper, Opening, update, answer, question, reply, opening_of, says, WritesBack}
-use Rattle.opening.proofs.Entries.{length_entries}
+use Rattle.opening.proofs.ChangeLists.{length_entries}
 use Rattle.opening.proofs.Fields.{fits4, write4, split, back2, back4, header_back}
 
 -- a check that did not refuse

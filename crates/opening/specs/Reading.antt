@@ -1,7 +1,7 @@
 -- What octets are read as, and in which order they are refused.
 use Rattle.std.specs.Prelude.{◌≡◌, ℕ, ◌+◌, ◌-◌, ◌*◌, ◌/◌, ◌%◌, ◌≤◌, Bool, true, cond, not, ◌&&◌, ◌||◌, List, [], ◌∷◌, length, take, drop, None, Option, ◌==◌, nat_le, nat_lt, slice_index}
 use Rattle.icp.specs.declared.contents.Change.{Change}
-use Rattle.opening.specs.declared.headers.Header.{Header}
+use Rattle.icp.specs.declared.contents.Header.{Header}
 use Rattle.opening.specs.declared.opener.Identity.{Identity}
 use Rattle.opening.specs.declared.opener.Opener.{Opener}
 use Rattle.opening.specs.declared.opener.Call.{Call}
@@ -11,6 +11,7 @@ use Rattle.icp.specs.declared.refusals.MessageFault.TheVariants as fault
 use Rattle.std.specs.Str.{bytes_eq}
 use Rattle.icp.specs.Names.{nameable}
 use Rattle.icp.specs.Numbers.{number2, number4}
+use Rattle.icp.specs.Opcodes.{opcode_number}
 use Rattle.icp.specs.Faults.{refuse}
 use Rattle.icp.specs.Contents.{Content, changes, whole, acknowledgement, call, query, hit, miss}
 
@@ -90,9 +91,9 @@ pub record Headed (kind : Call) (o : Opener) (xs : List ℕ) (h : Header) : Type
   pub long : least kind ≤ length xs
   pub short : length xs ≤ 16384
   pub opened : opens kind (opcode_in xs) ≡ true
-  pub opcode_is : h.opcode ≡ opcode_in xs
+  pub opcode_is : opcode_number h.opcode ≡ opcode_in xs
   pub request_is : h.request ≡ request_in xs
-  pub data_is : h.data ≡ data_in xs
+  pub data_is : h.option ≡ data_in xs
   pub sender_is : h.sender ≡ sender_in xs
 
 -- the fields of an update's filter

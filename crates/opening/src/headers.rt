@@ -1,19 +1,10 @@
 // The checks that every message goes through first.
-ghost use Rattle.std.specs.Prelude.{◌≡◌, ◌≤◌, length, Some as Just, Option, MatchResult};
+ghost use Rattle.std.specs.Prelude.{◌≡◌, ◌≤◌, ◌&&◌, nat_le, length, Some as Just, Option, MatchResult};
 ghost use Rattle.opening.specs.Reading.{least, wrong_length, wrong_header, wrong_sender, header_refusal, Headed};
 
 use crate::numbers::{number2, number4};
 use crate::opener::{Call, Opener};
-use icp::MessageFault;
-
-// The fields of a header that say something.
-#[derive(Clone, Copy)]
-pub(crate) struct Header {
-    pub(crate) opcode: u8,
-    pub(crate) request: u32,
-    pub(crate) data: u32,
-    pub(crate) sender: u32,
-}
+use icp::{Header, MessageFault, Opcode};
 
 // Whether a message is too long, too short, or not as long as it says.
 fn wrong_length(call: Call, message: &[u8]) -> bool
@@ -23,15 +14,24 @@ fn wrong_length(call: Call, message: &[u8]) -> bool
     n > 16384 || n < call.least() || number2(message, 2) as usize != n
 }
 
+// Whether a first octet is the opcode of a message that has no option data.
+fn is_without_data(number: u8) -> bool
+    ensures { result ≡ (nat_le 1 number && nat_le number 3) }
+{
+    let Ok(opcode) = Opcode::try_from(number) else {
+        return false;
+    };
+    matches!(opcode, Opcode::Query | Opcode::Hit | Opcode::Miss)
+}
+
 // Whether a message is of another version, or has options or data where none are.
 fn wrong_header(message: &[u8]) -> bool
     requires { 20 ≤ length message.now }
     ensures { result ≡ wrong_header message.now }
 {
-    let opcode = message[0];
     message[1] != 2
         || number4(message, 8) != 0
-        || 1 <= opcode && opcode <= 3 && number4(message, 12) != 0
+        || is_without_data(message[0]) && number4(message, 12) != 0
 }
 
 // Whether a message is not from a sibling, or not for this house.
@@ -42,10 +42,9 @@ fn wrong_sender(call: Call, opener: &Opener, message: &[u8]) -> bool
     let sender = number4(message, 16);
     let stranger = opener.is_stranger(sender);
     match call {
-        Call::Update => stranger,
+        Call::Update | Call::Reply => stranger,
         Call::Answer => stranger || number4(message, 12) != opener.number,
         Call::Query => stranger || number4(message, 20) != sender,
-        Call::Reply => stranger,
     }
 }
 
@@ -64,10 +63,9 @@ pub(crate) fn open_header(
     if wrong_header(message) {
         return Err(MessageFault::Header { house });
     }
-    let opcode = message[0];
-    if !call.opens(opcode) {
+    let Some(opcode) = call.opcode(message[0]) else {
         return Err(MessageFault::Opcode { house });
-    }
+    };
     let request = number4(message, 4);
     if wrong_sender(call, opener, message) {
         return Err(MessageFault::Sender {
@@ -78,7 +76,7 @@ pub(crate) fn open_header(
     Ok(Header {
         opcode,
         request,
-        data: number4(message, 12),
+        option: number4(message, 12),
         sender: number4(message, 16),
     })
 }

@@ -9,5 +9,5 @@ mod opener;
 mod replies;
 
 pub use laws::message_laws;
-pub use opened::{Opened, UpdateKind};
+pub use opened::{Entries, Opened, UpdateKind};
 pub use opener::{Identity, Opener};

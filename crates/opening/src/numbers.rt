@@ -1,6 +1,8 @@
 // Numbers in octets, the highest octet first.
-ghost use Rattle.std.specs.Prelude.{◌≡◌, ◌+◌, ◌≤◌, length, drop};
+ghost use Rattle.std.specs.Prelude.{◌≡◌, ◌+◌, ◌≤◌, length};
 ghost use Rattle.icp.specs.Numbers.{number2, number4};
+
+// Two readers, since no trait has the `from_be_bytes` of both widths: one of any width would still need a call for each.
 
 // The number in two octets.
 pub(crate) fn number2(octets: &[u8], at: usize) -> u16
@@ -16,12 +18,4 @@ pub(crate) fn number4(octets: &[u8], at: usize) -> u32
     ensures { result ≡ number4 octets.now at }
 {
     u32::from_be_bytes([octets[at], octets[at + 1], octets[at + 2], octets[at + 3]])
-}
-
-// The octets from a place on.
-pub(crate) fn rest(octets: &[u8], at: usize) -> &[u8]
-    requires { at ≤ length octets.now }
-    ensures { result.now ≡ drop at octets.now }
-{
-    &octets[at..]
 }

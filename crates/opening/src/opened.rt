@@ -4,18 +4,24 @@ use crate::opener::Identity;
 mod methods;
 
 // How an update gives a version: by what changed since the one before, or whole.
-#[derive(Clone, Copy)]
+#[derive(Clone, Copy, PartialEq, Eq, Debug)]
 pub enum UpdateKind {
     Changes,
     Whole,
 }
 
 // An update as a house opened it. It borrows the message, from whose octets its entries are read, and is moved, not copied.
-#[derive(Drop)]
+#[derive(PartialEq, Eq, Debug, Drop)]
 pub struct Opened<'m> {
     opener: Identity,
     kind: UpdateKind,
     sender: u32,
     version: u32,
+    rest: &'m [u8],
+}
+
+// The entries of a change list that are left to read.
+#[derive(Clone, Copy, PartialEq, Eq, Debug)]
+pub struct Entries<'m> {
     rest: &'m [u8],
 }

@@ -1,11 +1,13 @@
 // Who opens a message, and what for.
-ghost use Rattle.std.specs.Prelude.{◌≡◌};
+ghost use Rattle.std.specs.Prelude.{◌≡◌, true, false, MatchOption};
+ghost use Rattle.icp.specs.Opcodes.{opcode_number};
 ghost use Rattle.opening.specs.Reading.{identity, least, opens, stranger};
 
 use filter::FilterSize;
+use icp::Opcode;
 
 // A house as the opener of a message: its number, how many houses there are, and how many positions their filters have.
-#[derive(Clone, Copy)]
+#[derive(Clone, Copy, PartialEq, Eq, Debug)]
 pub struct Opener {
     pub number: u32,
     pub count: u32,
@@ -13,7 +15,7 @@ pub struct Opener {
 }
 
 // The same in plain numbers, as an opened update keeps it.
-#[derive(Clone, Copy)]
+#[derive(Clone, Copy, PartialEq, Eq, Debug)]
 pub struct Identity {
     pub number: u32,
     pub count: u32,
@@ -43,14 +45,28 @@ impl Call {
     }
 
     // Whether such a message may have this opcode.
-    pub(crate) fn opens(self, opcode: u8) -> bool
-        ensures { result ≡ opens self opcode }
+    fn opens(self, opcode: Opcode) -> bool
+        ensures { result ≡ opens self (opcode_number opcode) }
     {
         match self {
-            Call::Update => opcode == 20 || opcode == 30,
-            Call::Answer => opcode == 31 || opcode == 32,
-            Call::Query => opcode == 1,
-            Call::Reply => opcode == 2 || opcode == 3,
+            Call::Update => matches!(opcode, Opcode::Changes | Opcode::Whole),
+            Call::Answer => matches!(opcode, Opcode::Acknowledgement | Opcode::CallForWhole),
+            Call::Query => matches!(opcode, Opcode::Query),
+            Call::Reply => matches!(opcode, Opcode::Hit | Opcode::Miss),
+        }
+    }
+
+    // The opcode of a number, where such a message may have it.
+    pub(crate) fn opcode(self, number: u8) -> Option<Opcode>
+        ensures { MatchOption result (opens self number ≡ false) (λ o. (opens self number ≡ true) × (opcode_number o ≡ number)) }
+    {
+        let Ok(opcode) = Opcode::try_from(number) else {
+            return None;
+        };
+        if self.opens(opcode) {
+            Some(opcode)
+        } else {
+            None
         }
     }
 }

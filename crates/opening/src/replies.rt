@@ -1,35 +1,44 @@
 // Answers, queries and replies opened.
-ghost use Rattle.std.specs.Prelude.{◌≡◌, ◌≤◌, false, length, Some as Just, None as Nothing, MatchResult};
+ghost use Rattle.std.specs.Prelude.{◌≡◌, true, false, drop, Some as Just, None as Nothing, Option, MatchOption, MatchResult};
+ghost use Rattle.icp.specs.declared.refusals.MessageFault.TheVariants as fault;
 ghost use Rattle.icp.specs.Contents.{query as asks};
-ghost use Rattle.opening.specs.Reading.{wrong_text, other_query, answer_refusal, query_refusal, reply_refusal, answer_in, query_in, reply_in};
+ghost use Rattle.icp.specs.Faults.{refuse};
 ghost use Rattle.icp.specs.Types.{answer_says, reply_as};
+ghost use Rattle.opening.specs.Reading.{least, all_but_last, wrong_text, Headed, header_refusal, answer_refusal, query_refusal, reply_refusal, answer_in, query_in, reply_in};
 
 use crate::headers::open_header;
-use crate::numbers::rest;
 use crate::opener::{Call, Opener};
-use icp::{Answer, AnswerKind, MessageFault, Query, Reply, ReplyKind};
+use icp::{Answer, AnswerKind, Header, MessageFault, Opcode, Query, Reply, ReplyKind};
 use store::good_name;
 
-// Whether a text is not a good name and a zero octet.
-fn wrong_text(body: &[u8]) -> bool
-    ensures is { result ≡ wrong_text body.now }
-    ensures some { result ≡ false → 1 ≤ length body.now }
+// The name in a text, where it is a good name and a zero octet.
+fn name_in(text: &[u8]) -> Option<&[u8]>
+    ensures { MatchOption result (wrong_text text.now ≡ true) (λ name. (wrong_text text.now ≡ false) × (name.now ≡ all_but_last text.now)) }
 {
-    let n = body.len();
-    if n == 0 || body[n - 1] != 0 {
-        return true;
+    let (end, name) = text.split_last()?;
+    if *end == 0 && good_name(name) {
+        Some(name)
+    } else {
+        None
     }
-    !good_name(&body[0..n - 1])
-}
-
-// Whether the query that a reply names is another than this one.
-fn other_query(request: u32, name: &[u8], asked: u32, about: &[u8]) -> bool
-    ensures { result ≡ other_query request name.now asked about.now }
-{
-    request != asked || name != about
 }
 
 impl Opener {
+    // The header and the name of a message that ends in a name and a zero octet.
+    fn open_named<'m>(
+        &self,
+        call: Call,
+        message: &'m [u8],
+    ) -> Result<(Header, &'m [u8]), MessageFault>
+        ensures { MatchResult result (λ r. Headed call self.now message.now r.0 × (wrong_text (drop (least call) message.now) ≡ false) × (r.1.now ≡ all_but_last (drop (least call) message.now))) (λ f. (rest : Option MessageFault) → header_refusal call self.now message.now (refuse (wrong_text (drop (least call) message.now)) (fault.Name self.now.number) rest) ≡ Just f) }
+    {
+        let header = open_header(call, self, message)?;
+        let Some(name) = name_in(&message[call.least()..]) else {
+            return Err(MessageFault::Name { house: self.number });
+        };
+        Ok((header, name))
+    }
+
     // What an answer to an update of this house says.
     pub fn open_answer(&self, message: &[u8]) -> Result<Answer, MessageFault>
         ensures { MatchResult result (λ a. (answer_refusal self.now message.now ≡ Nothing) × (answer_says a ≡ answer_in message.now)) (λ f. answer_refusal self.now message.now ≡ Just f) }
@@ -41,16 +50,15 @@ impl Opener {
                 version: header.request,
             });
         }
-        let kind = if header.opcode == 31 {
-            AnswerKind::Acknowledgement
-        } else {
-            AnswerKind::CallForWhole
+        let kind = match header.opcode {
+            Opcode::Acknowledgement => AnswerKind::Acknowledgement,
+            _ => AnswerKind::CallForWhole,
         };
         Ok(Answer {
             kind,
             sender: header.sender,
             held: header.request,
-            owner: header.data,
+            owner: header.option,
         })
     }
 
@@ -58,15 +66,11 @@ impl Opener {
     pub fn open_query<'m>(&self, message: &'m [u8]) -> Result<Query<'m>, MessageFault>
         ensures { MatchResult result (λ q. (query_refusal self.now message.now ≡ Nothing) × (asks q.sender q.request q.name.now ≡ query_in message.now)) (λ f. query_refusal self.now message.now ≡ Just f) }
     {
-        let header = open_header(Call::Query, self, message)?;
-        let body = rest(message, 24);
-        if wrong_text(body) {
-            return Err(MessageFault::Name { house: self.number });
-        }
+        let (header, name) = self.open_named(Call::Query, message)?;
         Ok(Query {
             sender: header.sender,
             request: header.request,
-            name: &body[0..body.len() - 1],
+            name,
         })
     }
 
@@ -79,19 +83,13 @@ impl Opener {
     ) -> Result<Reply<'m>, MessageFault>
         ensures { MatchResult result (λ a. (reply_refusal self.now request name.now message.now ≡ Nothing) × (reply_as a.kind a.sender a.request a.name.now ≡ reply_in message.now)) (λ f. reply_refusal self.now request name.now message.now ≡ Just f) }
     {
-        let header = open_header(Call::Reply, self, message)?;
-        let body = rest(message, 20);
-        if wrong_text(body) {
-            return Err(MessageFault::Name { house: self.number });
-        }
-        let named = &body[0..body.len() - 1];
-        if other_query(header.request, named, request, name) {
+        let (header, named) = self.open_named(Call::Reply, message)?;
+        if header.request != request || named != name {
             return Err(MessageFault::Reply { house: self.number });
         }
-        let kind = if header.opcode == 2 {
-            ReplyKind::Hit
-        } else {
-            ReplyKind::Miss
+        let kind = match header.opcode {
+            Opcode::Hit => ReplyKind::Hit,
+            _ => ReplyKind::Miss,
         };
         Ok(Reply {
             kind,

@@ -2,7 +2,8 @@
 use digest::Md5;
 use filter::{CountingFilter, FilterSize, Receipt, Summary};
 use icp::{
-    Answer, AnswerKind, MessageFault, Query, Reply, ReplyKind, write_declaration, write_whole,
+    Answer, AnswerKind, Change, MessageFault, Query, Reply, ReplyKind, write_declaration,
+    write_whole,
 };
 use opening::{Opener, UpdateKind};
 use std::alloc::Global;
@@ -50,7 +51,7 @@ fn whole_of_abc(rt: HostRuntime) -> Result<(), Fail> {
     let Ok(update) = house.open_update(&out) else {
         return Err(Fail::new("the whole is opened"));
     };
-    assert!(rt; matches!(update.kind(), UpdateKind::Whole));
+    assert_eq!(rt; update.kind(), UpdateKind::Whole);
     assert_eq!(rt; (update.sender(), update.version()), (1, 1));
     assert_eq!(rt; update.rest(), &written[32..40]);
     Ok(())
@@ -76,12 +77,16 @@ fn list_of_one(rt: HostRuntime) -> Result<(), Fail> {
     let Ok(update) = house.open_update(LIST) else {
         return Err(Fail::new("the list is opened"));
     };
-    assert!(rt; matches!(update.kind(), UpdateKind::Changes));
-    assert!(rt; update.entry(1).is_none());
-    let Some(change) = update.entry(0) else {
-        return Err(Fail::new("it has an entry"));
+    assert_eq!(rt; update.kind(), UpdateKind::Changes);
+    let change = Change {
+        position: 63,
+        value: true,
     };
-    assert_eq!(rt; (change.position, change.value), (63, true));
+    assert_eq!(rt; update.entry(0), Some(change));
+    assert_eq!(rt; update.entry(1), None);
+    let mut changes = update.changes();
+    assert_eq!(rt; changes.next(), Some(change));
+    assert_eq!(rt; changes.next(), None);
     Ok(())
 }
 
@@ -100,10 +105,7 @@ fn call_for_whole(rt: HostRuntime) -> Result<(), Fail> {
         &out[..],
         b"\x20\x02\x00\x14\x00\x00\x01\x02\x00\x00\x00\x00\x00\x00\x00\x02\x00\x00\x00\x03\x09".as_slice()
     );
-    let Ok(opened) = house.open_answer(&out[0..20]) else {
-        return Err(Fail::new("the answer is opened"));
-    };
-    assert_eq!(rt; (opened.sender, opened.held, opened.owner), (3, 258, 2));
+    assert_eq!(rt; house.open_answer(&out[0..20]), Ok(answer));
     Ok(())
 }
 
@@ -123,11 +125,7 @@ fn query_about_atlas(rt: HostRuntime) -> Result<(), Fail> {
     );
     assert_eq!(rt; query.write(&mut out), Ok(30));
     assert_eq!(rt; &out[20..30], b"\x00\x00\x00\x01atlas\x00".as_slice());
-    let Ok(asked) = house.open_query(&out) else {
-        return Err(Fail::new("the query is opened"));
-    };
-    assert_eq!(rt; (asked.sender, asked.request), (1, 5));
-    assert_eq!(rt; asked.name, name.as_slice());
+    assert_eq!(rt; house.open_query(&out), Ok(query));
     Ok(())
 }
 
@@ -145,9 +143,9 @@ fn reply_about_atlas(rt: HostRuntime) -> Result<(), Fail> {
     assert_eq!(rt; reply.write(&mut out), Ok(26));
     let other = MessageFault::Reply { house: 2 };
     let unnamed = MessageFault::Name { house: 2 };
-    assert!(rt; matches!(house.open_reply(5, name, &out), Ok(_)));
-    assert!(rt; matches!(house.open_reply(6, name, &out), Err(f) if f == other));
+    assert_eq!(rt; house.open_reply(5, name, &out), Ok(reply));
+    assert_eq!(rt; house.open_reply(6, name, &out), Err(other));
     out[20] = 0;
-    assert!(rt; matches!(house.open_reply(5, name, &out), Err(f) if f == unnamed));
+    assert_eq!(rt; house.open_reply(5, name, &out), Err(unnamed));
     Ok(())
 }

@@ -1,34 +1,48 @@
 // Updates opened and read.
-ghost use Rattle.std.specs.Prelude.{◌≡◌, ◌+◌, ◌*◌, ◌/◌, ◌<◌, ◌≤◌, length, Some as Just, None as Nothing, MatchOption, MatchResult, slice_index_or};
-ghost use Rattle.icp.specs.Numbers.{number4};
-ghost use Rattle.opening.specs.Reading.{identity, change, entries_in, rises, wrong_filter, wrong_body, wrong_numbers, wrong_entries, Headed, body_refusal, update_refusal, update_in};
-ghost use Rattle.opening.specs.Types.{update_as};
+ghost use Rattle.std.specs.Prelude.{◌≡◌, ◌<◌, ◌≤◌, length, drop, Some as Just, None as Nothing, MatchOption, MatchResult, slice_index_or};
+ghost use Rattle.opening.specs.Reading.{identity, change, entries_in, rises, opcode_in, wrong_filter, wrong_body, wrong_version, wrong_entries, Headed, body_refusal, update_refusal, update_in};
+ghost use Rattle.opening.specs.Types.{update_as, kind_of, entries_left};
+ghost use Rattle.opening.specs.declared.opener.Call.TheVariants.{Update};
 
-use super::{Opened, UpdateKind};
-use crate::headers::{Header, open_header};
-use crate::numbers::{number2, number4, rest};
+use super::{Entries, Opened, UpdateKind};
+use crate::headers::open_header;
+use crate::numbers::{number2, number4};
 use crate::opener::{Call, Identity, Opener};
-use icp::{Change, MessageFault};
+use icp::{Change, Header, MessageFault, Opcode};
 
-// The entry in four octets.
-fn change_at(octets: &[u8], at: usize) -> Change
-    requires { at + 4 ≤ length octets.now }
-    ensures { result ≡ change (number4 octets.now at) }
+// The entry that a number says: the top bit is the new value.
+fn change(n: u32) -> Change
+    ensures { result ≡ change n }
 {
-    let n = number4(octets, at);
     Change {
         position: n % 0x8000_0000,
         value: n >= 0x8000_0000,
     }
 }
 
+impl Iterator for Entries<'_> {
+    ghost use Rattle.std.specs.Iterator.{YieldsFirst, item_count};
+
+    type Item = Change;
+
+    ghost next_gives = { YieldsFirst entries_left };
+
+    ghost remaining = { item_count entries_left };
+
+    fn next(&mut self) -> Option<Change> {
+        let (octets, rest) = self.rest.split_first_chunk()?;
+        self.rest = rest;
+        Some(change(u32::from_be_bytes(*octets)))
+    }
+}
+
 // Whether the positions of a change list rise, all below m.
-fn rising(octets: &[u8], m: u32) -> bool
-    ensures { result ≡ rises m 0 (entries_in octets.now) }
+fn rising(entries: Entries<'_>, m: u32) -> bool
+    ensures { result ≡ rises m 0 (entries_left entries.entry) }
 {
     let mut low = 0;
-    for i in 0..octets.len() / 4 {
-        let position = change_at(octets, 4 * i).position;
+    for entry in entries {
+        let position = entry.position;
         if position < low || position >= m {
             return false;
         }
@@ -37,71 +51,101 @@ fn rising(octets: &[u8], m: u32) -> bool
     true
 }
 
-// Whether an update is of another filter.
-fn wrong_filter(opener: &Opener, message: &[u8]) -> bool
-    requires { 32 ≤ length message.now }
-    ensures { result ≡ wrong_filter opener.now message.now }
-{
-    number2(message, 20) != 4
-        || number2(message, 22) != 32
-        || number4(message, 24) != opener.size.positions()
+// An update whose header passed the checks, at the house that opens it.
+#[derive(Clone, Copy)]
+struct Incoming<'m> {
+    opener: Opener,
+    message: &'m [u8],
+    header: Header,
+    ghost headed: { Headed Update opener message.now header },
 }
 
-// Whether the body of an update has another length than its kind and its count give.
-fn wrong_body(opener: &Opener, message: &[u8]) -> bool
-    requires { 32 ≤ length message.now }
-    ensures { result ≡ wrong_body opener.now message.now }
-{
-    let count = number4(message, 28) as usize;
-    let octets = opener.size.octets();
-    if message[0] == 20 {
-        message.len() != 32 + 4 * count || !(4 * count < octets)
-    } else {
-        message.len() != 32 + octets || count != 0
+impl<'m> Incoming<'m> {
+    // How it gives the version.
+    fn kind(self) -> UpdateKind
+        ensures { result ≡ kind_of (opcode_in self.entry.message.now) }
+    {
+        match self.header.opcode {
+            Opcode::Changes => UpdateKind::Changes,
+            _ => UpdateKind::Whole,
+        }
     }
-}
 
-// Whether an update has no version, or another earlier one than its kind gives.
-fn wrong_version(header: &Header) -> bool
-    ensures { result ≡ wrong_numbers header.now.opcode header.now.request header.now.data }
-{
-    let version = header.request;
-    if version == 0 {
-        return true;
+    // What follows the fields of the filter.
+    fn rest(self) -> &'m [u8]
+        ensures { result.now ≡ drop 32 self.entry.message.now }
+    {
+        &self.message[32..]
     }
-    let earlier = if header.opcode == 20 { version - 1 } else { 0 };
-    header.data != earlier
-}
 
-// Whether the positions of a change list are too large or do not rise.
-fn wrong_entries(opener: &Opener, message: &[u8]) -> bool
-    requires { 32 ≤ length message.now }
-    ensures { result ≡ wrong_entries opener.now message.now }
-{
-    let entries = rest(message, 32);
-    message[0] == 20 && !rising(entries, opener.size.positions())
-}
+    // Whether it is of another filter.
+    fn wrong_filter(self) -> bool
+        ensures { result ≡ wrong_filter self.entry.opener self.entry.message.now }
+    {
+        number2(self.message, 20) != 4
+            || number2(self.message, 22) != 32
+            || number4(self.message, 24) != self.opener.size.positions()
+    }
 
-// The checks of an update whose header is right.
-fn check_body(opener: &Opener, header: &Header, message: &[u8]) -> Result<(), MessageFault>
-    requires { Headed Call.Update opener.now message.now header.now }
-    ensures { MatchResult result (λ _. body_refusal opener.now message.now ≡ Nothing) (λ f. body_refusal opener.now message.now ≡ Just f) }
-{
-    let house = opener.number;
-    let version = header.request;
-    if wrong_filter(opener, message) {
-        return Err(MessageFault::Filter { house, version });
+    // Whether its body has another length than its kind and its count give.
+    fn wrong_body(self) -> bool
+        ensures { result ≡ wrong_body self.entry.opener self.entry.message.now }
+    {
+        let length = self.message.len();
+        let count = number4(self.message, 28) as usize;
+        let octets = self.opener.size.octets();
+        match self.kind() {
+            UpdateKind::Changes => length != 32 + 4 * count || !(4 * count < octets),
+            UpdateKind::Whole => length != 32 + octets || count != 0,
+        }
     }
-    if wrong_body(opener, message) {
-        return Err(MessageFault::Body { house, version });
+
+    // Whether it has no version, or another earlier one than its kind gives.
+    fn wrong_version(self) -> bool
+        ensures { result ≡ wrong_version self.entry.message.now }
+    {
+        let version = self.header.request;
+        if version == 0 {
+            return true;
+        }
+        let earlier = match self.kind() {
+            UpdateKind::Changes => version - 1,
+            UpdateKind::Whole => 0,
+        };
+        self.header.option != earlier
     }
-    if wrong_version(header) {
-        return Err(MessageFault::Version { house, version });
+
+    // Whether it is a change list whose positions are too large or do not rise.
+    fn wrong_entries(self) -> bool
+        ensures { result ≡ wrong_entries self.entry.opener self.entry.message.now }
+    {
+        let entries = Entries { rest: self.rest() };
+        match self.kind() {
+            UpdateKind::Changes => !rising(entries, self.opener.size.positions()),
+            UpdateKind::Whole => false,
+        }
     }
-    if wrong_entries(opener, message) {
-        return Err(MessageFault::Position { house, version });
+
+    // The checks of its body.
+    fn check(self) -> Result<(), MessageFault>
+        ensures { MatchResult result (λ _. body_refusal self.entry.opener self.entry.message.now ≡ Nothing) (λ f. body_refusal self.entry.opener self.entry.message.now ≡ Just f) }
+    {
+        let house = self.opener.number;
+        let version = self.header.request;
+        if self.wrong_filter() {
+            return Err(MessageFault::Filter { house, version });
+        }
+        if self.wrong_body() {
+            return Err(MessageFault::Body { house, version });
+        }
+        if self.wrong_version() {
+            return Err(MessageFault::Version { house, version });
+        }
+        if self.wrong_entries() {
+            return Err(MessageFault::Position { house, version });
+        }
+        Ok(())
     }
-    Ok(())
 }
 
 impl Opener {
@@ -110,23 +154,23 @@ impl Opener {
         ensures { MatchResult result (λ u. (update_refusal self.now message.now ≡ Nothing) × (update_as u.kind u.sender u.version u.rest.now ≡ update_in message.now) × (u.opener ≡ identity self.now)) (λ f. update_refusal self.now message.now ≡ Just f) }
     {
         let header = open_header(Call::Update, self, message)?;
-        check_body(self, &header, message)?;
-        let kind = if header.opcode == 20 {
-            UpdateKind::Changes
-        } else {
-            UpdateKind::Whole
+        let update = Incoming {
+            opener: *self,
+            message,
+            header,
         };
+        update.check()?;
         Ok(Opened {
             opener: self.identity(),
-            kind,
+            kind: update.kind(),
             sender: header.sender,
             version: header.request,
-            rest: rest(message, 32),
+            rest: update.rest(),
         })
     }
 }
 
-impl Opened<'_> {
+impl<'m> Opened<'m> {
     // The house that opened the update.
     pub fn opener(&self) -> Identity
         ensures { result ≡ self.now.opener }
@@ -162,12 +206,19 @@ impl Opened<'_> {
         self.rest
     }
 
+    // The entries of a change list, in order.
+    pub fn changes(&self) -> Entries<'m>
+        ensures { entries_left result ≡ entries_in self.now.rest.now }
+    {
+        Entries { rest: self.rest }
+    }
+
     // An entry of a change list, or none past the last.
     pub fn entry(&self, at: usize) -> Option<Change>
         ensures { MatchOption result (length (entries_in self.now.rest.now) ≤ at) (λ e. (at < length (entries_in self.now.rest.now)) × (slice_index_or (entries_in self.now.rest.now) at e ≡ e)) }
     {
         if at < self.rest.len() / 4 {
-            Some(change_at(self.rest, 4 * at))
+            Some(change(number4(self.rest, 4 * at)))
         } else {
             None
         }

@@ -1,20 +1,8 @@
-use Rattle.std.proofs.Common.{◌+◌, ◌/◌, ◌≤◌, cond, length, None, vec_items, sym, ap, subst, arith}
-use Rattle.std.proofs.lemmas.Bool.{ne_eqb, le-ltb}
-use Rattle.icp.specs.declared.refusals.MessageFault.TheVariants.{LastVersion, Output}
-use Rattle.icp.specs.Contents.{changes, whole}
-use Rattle.icp.specs.Faults.{refuse}
-use Rattle.icp.specs.Writing.{Written, changed}
+use Rattle.std.proofs.Common.{◌≡◌, ◌+◌, arith, rules}
 use Rattle.icp.proofs.declaring.write_declaration.Goals as goal
 
-pub returns-in-Some : goal.returns-in-Some
-returns-in-Some c =
-    let s = c.args.sender in
-    let e = c.args.earlier in
-    let m = c.args.after.now.size.positions in
-    let a = vec_items c.args.before.now.octets in
-    let b = vec_items c.args.after.now.octets in
-    let xs = c.args.out.now in
-    let room : 32 + m / 8 ≤ length xs = let x = c.octets.ensures in let y = ap (λ z. z.positions) c.size.ensures in omega arith in (
-      (λ j. refuse (ne_eqb e 4294967295 c.if-earlier-eq4294967295.false j) (LastVersion s) (refuse (le-ltb (length xs) (32 + m / 8) room j) (Output s) None)),
-      subst (λ t. Written m (cond t (changes s (e + 1) (changed a b m)) (whole s (e + 1) b)) xs c.put_list.new.out c.put_list.result) (sym c.in-Some.ensures.0) c.put_list.ensures,
-    )
+pub returns-in-Some-between : goal.returns-in-Some-between
+returns-in-Some-between c =
+    let told = c.in-Some-between.ensures in
+    let next : c.in-Some.version ≡ c.args.earlier + 1 = omega arith in
+    (search rules, rw told.0 (rw (told.1, told.2, next) at c.put.ensures))

@@ -1,34 +1,34 @@
-use Rattle.std.proofs.Common.{◌≡◌, ◌<◌, ◌≤◌, ◌⊎◌, length, get_or, sym, ap, ◌∙◌, inl, inr, arith}
-use Rattle.std.proofs.lemmas.List.{at_drop_all}
-use Rattle.opening.specs.Reading.{entries_in, rises}
-use Rattle.opening.proofs.Entries.{length_entries, entry_at, rises_on, rises_not}
+use Rattle.std.proofs.Common.{◌+◌, ◌<◌, ◌≤◌, ◌⊎◌, length, drop, sym, ap, ◌∙◌, inl, inr, arith}
+use Rattle.std.proofs.lemmas.List.{at_drop_all, length_push}
+use Rattle.std.proofs.lemmas.Iterator.Consumers.{YieldsList-from_first, YieldsList-turn, YieldsList-end}
+use Rattle.opening.specs.Reading.{rises}
+use Rattle.opening.specs.Types.{entries_left}
+use Rattle.opening.proofs.ChangeLists.{rises_on, rises_not}
 use Rattle.opening.proofs.opened.methods.rising.Goals as goal
 
 pub returns-then-position-low : goal.returns-then-position-low
 returns-then-position-low c =
-    let xs = c.args.octets.now in
-    let es = entries_in xs in
-    let i = c.loop-i.i in
-    let e = c.change_at-position.result in
-    let within : i < length es = let n = length_entries xs in omega arith in
-    let is : get_or es i e ≡ e = entry_at xs i e c.loop-i-test.true ∙ sym c.change_at-position.ensures in
-    let out : (e.position < c.loop-i.low) ⊎ (c.args.m ≤ e.position) = elim c.then-position-low.either [ inl a ↦ inl a | inr b ↦ inr b.1 ] in
-    sym (sym c.loop-i.invariant.0 ∙ rises_not c.args.m c.loop-i.low es i e within is out)
+    let es = entries_left c.args.entries in
+    let i = length c.loop-entry.yielded in
+    let e = c.in-Some.entry in
+    let road = YieldsList-from_first (λ x. x) entries_left es (ap entries_left c.into_iter-entry-iterator.ensures.into_iter_gives) in
+    let turn = YieldsList-turn road c.loop-entry.yielded c.loop-entry.entry-iterator c.loop-entry.yielded_by c.next.result c.next.new.self e c.in-Some.is c.next.ensures.steps in
+    let out : (e.position < c.loop-entry.low) ⊎ (c.args.m ≤ e.position) = elim c.then-position-low.either [ inl a ↦ inl a | inr b ↦ inr b.1 ] in
+    sym (sym c.loop-entry.invariant ∙ rises_not c.args.m c.loop-entry.low es i e turn.0 (sym turn.1) out)
 
-pub loop-i-preserved : goal.loop-i-preserved
-loop-i-preserved c =
-    let xs = c.args.octets.now in
-    let es = entries_in xs in
-    let i = c.loop-i.i in
-    let e = c.change_at-position.result in
-    let within : i < length es = let n = length_entries xs in omega arith in
-    let is : get_or es i e ≡ e = entry_at xs i e c.loop-i-test.true ∙ sym c.change_at-position.ensures in
-    let small : e.position < 2147483648 = let p = ap (λ x. x.position) c.change_at-position.ensures in omega arith in
-    (rises_on c.args.m c.loop-i.low es i e within is c.if-position-low.false c.if-position-m.false ∙ c.loop-i.invariant.0, omega arith)
+pub loop-entry-preserved : goal.loop-entry-preserved
+loop-entry-preserved c =
+    let es = entries_left c.args.entries in
+    let i = length c.loop-entry.yielded in
+    let e = c.in-Some.entry in
+    let road = YieldsList-from_first (λ x. x) entries_left es (ap entries_left c.into_iter-entry-iterator.ensures.into_iter_gives) in
+    let turn = YieldsList-turn road c.loop-entry.yielded c.loop-entry.entry-iterator c.loop-entry.yielded_by c.next.result c.next.new.self e c.in-Some.is c.next.ensures.steps in
+    let on = ap (λ k. rises c.args.m (e.position + 1) (drop k es)) (length_push c.loop-entry.yielded e) in
+    on ∙ rises_on c.args.m c.loop-entry.low es i e turn.0 (sym turn.1) c.if-position-low.false c.if-position-m.false ∙ c.loop-entry.invariant
 
 pub returns : goal.returns
 returns c =
-    let xs = c.args.octets.now in
-    let es = entries_in xs in
-    let behind : length es ≤ c.loop-i.i = let n = length_entries xs in omega arith in
-    sym (sym c.loop-i.invariant.0 ∙ at_drop_all (rises c.args.m c.loop-i.low) es c.loop-i.i behind)
+    let es = entries_left c.args.entries in
+    let road = YieldsList-from_first (λ x. x) entries_left es (ap entries_left c.into_iter-entry-iterator.ensures.into_iter_gives) in
+    let all = YieldsList-end road c.loop-entry.yielded c.loop-entry.entry-iterator c.loop-entry.yielded_by c.next.result c.next.new.self c.in-None.is c.next.ensures.steps in
+    sym (sym c.loop-entry.invariant ∙ at_drop_all (rises c.args.m c.loop-entry.low) es (length c.loop-entry.yielded) (omega (arith, all.1)))

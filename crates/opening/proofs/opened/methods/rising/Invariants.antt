@@ -1,6 +1,8 @@
-use Rattle.std.proofs.Common.{◌≡◌, ◌≤◌, drop}
-use Rattle.opening.specs.Reading.{entries_in, rises}
+use Rattle.std.proofs.Common.{◌≡◌, length, drop}
+use Rattle.opening.specs.Reading.{rises}
+use Rattle.opening.specs.Types.{entries_left}
 use Rattle.opening.proofs.opened.methods.rising.Given as goal
 
-abbrev pub invariant-loop-i : goal.invariant-loop-i
-invariant-loop-i l = (rises l.m l.low (drop l.i (entries_in l.octets)) ≡ rises l.m 0 (entries_in l.octets)) × (l.low ≤ 2147483648)
+abbrev pub invariant-loop-entry : goal.invariant-loop-entry
+invariant-loop-entry l =
+    rises l.m l.low (drop (length l.yielded) (entries_left l.fn.entries)) ≡ rises l.m 0 (entries_left l.fn.entries)
