@@ -13,9 +13,10 @@ use std::str::from_utf8;
 // The positions of the filter.
 const POSITIONS: u32 = 256;
 
-// What is kept beside the store.
+// A store, and what is kept beside it.
 #[derive(Drop)]
-pub struct Cache<P: Policy + Drop> {
+pub struct Cache<P: Policy + Drop, S: Probing + Drop> {
+    store: S,
     policy: P,
     heap: EvictionHeap,
     entries: Vec<Entry<P::Rank>>,
@@ -26,8 +27,13 @@ pub struct Cache<P: Policy + Drop> {
     stamp: u32,
 }
 
-impl<P: Policy + Drop> Cache<P> {
-    pub(crate) fn new(heap: Global, plan: &Plan, policy: P) -> anyhow::Result<Cache<P>> {
+impl<P: Policy + Drop, S: Probing + Drop> Cache<P, S> {
+    pub(crate) fn new(
+        heap: Global,
+        plan: &Plan,
+        policy: P,
+        store: S,
+    ) -> anyhow::Result<Cache<P, S>> {
         let Some(size) = FilterSize::new(POSITIONS) else {
             return Err(anyhow!("a filter cannot have so many positions"));
         };
@@ -41,6 +47,7 @@ impl<P: Policy + Drop> Cache<P> {
         }
         let filter = CountingFilter::new(heap, size)?;
         Ok(Cache {
+            store,
             policy,
             heap: EvictionHeap::new(),
             entries,
@@ -53,12 +60,7 @@ impl<P: Policy + Drop> Cache<P> {
     }
 
     // A record that is held is used; another is admitted, once there is room for it.
-    pub(crate) fn admit<S: Probing>(
-        &mut self,
-        rt: &HostRuntime,
-        store: &mut S,
-        line: &Line<'_>,
-    ) -> anyhow::Result<()> {
+    pub(crate) fn admit(&mut self, rt: &HostRuntime, line: &Line<'_>) -> anyhow::Result<()> {
         let name = line.name;
         let record = line.record();
         if !record.is_good() {
@@ -67,7 +69,7 @@ impl<P: Policy + Drop> Cache<P> {
         }
         self.stamp = self.stamp.saturating_add(1);
         let rank = self.policy.rank(self.stamp, record.size, record.cost);
-        if let Some(place) = store.find(record.name) {
+        if let Some(place) = self.store.find(record.name) {
             let _ = self.heap.rerank(self.entries.as_mut_slice(), place, rank);
             println!(rt; "used {name} at {place}")?;
             return Ok(());
@@ -76,21 +78,16 @@ impl<P: Policy + Drop> Cache<P> {
             println!(rt; "too large {name}")?;
             return Ok(());
         }
-        self.make_room(rt, store, record.size)?;
-        self.enter(rt, store, line)
+        self.make_room(rt, record.size)?;
+        self.enter(rt, line)
     }
 
     // Evicts until a place is free and the size fits.
-    fn make_room<S: Probing>(
-        &mut self,
-        rt: &HostRuntime,
-        store: &mut S,
-        size: u32,
-    ) -> anyhow::Result<()> {
-        for _ in 0..store.len() {
+    fn make_room(&mut self, rt: &HostRuntime, size: u32) -> anyhow::Result<()> {
+        for _ in 0..self.store.len() {
             let held = self.heap.len(self.entries.as_slice());
             let free = self.capacity.saturating_sub(self.used);
-            if held < store.len() && size as u64 <= free {
+            if held < self.store.len() && size as u64 <= free {
                 return Ok(());
             }
             let evicted = evict_least(
@@ -99,23 +96,18 @@ impl<P: Policy + Drop> Cache<P> {
                 self.entries.as_mut_slice(),
             );
             if let Some(entry) = evicted {
-                self.leave(rt, store, entry.place)?;
+                self.leave(rt, entry.place)?;
             }
         }
         Ok(())
     }
 
     // The record at a place leaves.
-    fn leave<S: Probing>(
-        &mut self,
-        rt: &HostRuntime,
-        store: &mut S,
-        place: usize,
-    ) -> anyhow::Result<()> {
-        let Some(row) = store.row(place) else {
+    fn leave(&mut self, rt: &HostRuntime, place: usize) -> anyhow::Result<()> {
+        let Some(row) = self.store.row(place) else {
             return Ok(());
         };
-        if store.remove(place).is_ok() {
+        if self.store.remove(place).is_ok() {
             self.used = self.used.saturating_sub(row.size() as u64);
             self.filter.lower(&Receipt::of(&Md5, self.size, row.name()));
             let name = from_utf8(row.name())?;
@@ -125,15 +117,10 @@ impl<P: Policy + Drop> Cache<P> {
     }
 
     // A record comes, ranked after what it evicted.
-    fn enter<S: Probing>(
-        &mut self,
-        rt: &HostRuntime,
-        store: &mut S,
-        line: &Line<'_>,
-    ) -> anyhow::Result<()> {
+    fn enter(&mut self, rt: &HostRuntime, line: &Line<'_>) -> anyhow::Result<()> {
         let name = line.name;
         let record = line.record();
-        match store.add(record) {
+        match self.store.add(record) {
             Ok(place) => {
                 let rank = self.policy.rank(self.stamp, record.size, record.cost);
                 let _ = self
@@ -142,7 +129,7 @@ impl<P: Policy + Drop> Cache<P> {
                 self.used = self.used.saturating_add(record.size as u64);
                 self.filter
                     .raise(&Receipt::of(&Md5, self.size, record.name));
-                match store.probes(record.name) {
+                match self.store.probes(record.name) {
                     Some(cells) => println!(rt;
                         "admitted {name} at {place}, found after {cells} cells"
                     )?,
@@ -158,10 +145,10 @@ impl<P: Policy + Drop> Cache<P> {
     }
 
     // Prints what is held, and the filter's record.
-    pub(crate) fn show<S: Probing>(&self, rt: &HostRuntime, store: &S) -> anyhow::Result<()> {
+    pub(crate) fn show(&self, rt: &HostRuntime) -> anyhow::Result<()> {
         let heap = rt.alloc();
-        for place in 0..store.len() {
-            if let Some(row) = store.row(place) {
+        for place in 0..self.store.len() {
+            if let Some(row) = self.store.row(place) {
                 let name = from_utf8(row.name())?;
                 let size = row.size();
                 let cost = row.cost();

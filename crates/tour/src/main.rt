@@ -15,22 +15,22 @@ use std::io::Read;
 use store::{CELLS, Cell, HashedIndex, Row, StoreFault, Table};
 
 // Admits each record, and prints what became of it and, at the end, of the cache.
-fn serve<P: Policy + Drop, S: Probing>(
+fn serve<P: Policy + Drop, S: Probing + Drop>(
     rt: &HostRuntime,
     plan: &Plan,
     policy: P,
-    store: &mut S,
+    store: S,
     text: &str,
 ) -> anyhow::Result<()> {
     let heap = rt.alloc();
-    let mut cache = Cache::new(heap, plan, policy)?;
+    let mut cache = Cache::new(heap, plan, policy, store)?;
     for line in text.lines().skip(1) {
         match Line::read(line) {
-            Some(line) => cache.admit(rt, store, &line)?,
+            Some(line) => cache.admit(rt, &line)?,
             None => println!(rt; "unread {line}")?,
         }
     }
-    cache.show(rt, store)
+    cache.show(rt)
 }
 
 // Prints why a store did not begin.
@@ -51,12 +51,12 @@ fn with_policy<P: Policy + Drop>(
     let mut cells = vec![in rt.alloc(); Cell::Never; CELLS]?;
     match plan.store {
         StoreChoice::Table => match Table::new(plan.places, rows.as_mut_slice()) {
-            Ok(mut table) => serve(rt, plan, policy, &mut table, text),
+            Ok(table) => serve(rt, plan, policy, table, text),
             Err((refusal, _)) => refused(rt, refusal),
         },
         StoreChoice::Index => {
             match HashedIndex::new(plan.places, rows.as_mut_slice(), cells.as_mut_slice()) {
-                Ok(mut index) => serve(rt, plan, policy, &mut index, text),
+                Ok(index) => serve(rt, plan, policy, index, text),
                 Err((refusal, _, _)) => refused(rt, refusal),
             }
         }
