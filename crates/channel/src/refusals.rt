@@ -22,6 +22,7 @@ impl Refusal for ChannelFault {
     ghost carries = { channel_fault };
 
     fn fault(&self) -> Fault {
+        // The number under which each case is reported: reports alone have numbers.
         let number = match self {
             ChannelFault::Positions => 2,
             ChannelFault::Length => 3,

@@ -36,6 +36,7 @@ pub enum MessageFault {
 }
 
 impl MessageFault {
+    // The number under which each case is reported: reports alone have numbers.
     fn number(self) -> u8
         ensures { result ≡ (message_fault self).number }
     {

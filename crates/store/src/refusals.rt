@@ -20,6 +20,7 @@ impl Refusal for StoreFault {
     ghost carries = { store_fault };
 
     fn fault(&self) -> Fault {
+        // The number under which each case is reported: reports alone have numbers.
         let number = match self {
             StoreFault::Places => 1,
             StoreFault::Length => 3,
