@@ -32,7 +32,7 @@ pub trait Channel {
         ensures exactly { MatchResult result (λ _. accepts self.old (letter to message.now) self.new) (λ _. self.new ≡ self.old) }
         ensures nothing_else { Sent (waiting self.old) (letter to message.now) (waiting self.new) × (size self.new ≡ size self.old) };
 
-    // Takes a message for a house into the front of a buffer that has room for any, and answers its length, or none. What else is in the buffer after an answer is left open; what is refused changes nothing.
+    // Takes a message for a house, again two arguments as a caller has them, into the front of a buffer that has room for any, and answers its length, or none. What else is in the buffer after an answer is left open; what is refused changes nothing.
     fn take(&mut self, house: u32, buffer: &mut [u8]) -> Result<Option<usize>, ChannelFault>
         ensures allowed { MatchResult result (λ n. Takeable (size self.old) house (length buffer.old) × Within n (length buffer.old)) (λ f. WhyUntaken f (size self.old) house (length buffer.old)) }
         ensures exactly { MatchResult result (λ n. gives self.old house (message_in n buffer.new) self.new) (λ _. (self.new ≡ self.old) × (buffer.new ≡ buffer.old)) }

@@ -3,7 +3,7 @@ use fault::Refusal;
 use icp::{Answer, AnswerKind, MessageFault, Query, Reply, ReplyKind};
 use opening::{Opened, Opener, UpdateKind};
 
-// Counts by the number of the refusal, 0 where a message was opened, and FNV-1a of all answers.
+// Counts by the number of the refusal, as they are printed, 0 where a message was opened; and FNV-1a of all answers.
 #[derive(Drop)]
 pub struct Answers {
     counts: [u32; 32],

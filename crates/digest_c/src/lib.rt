@@ -1,4 +1,4 @@
-// The digests by a word at a time, for C programs that link the library.
+// The digests by a word at a time, for C programs that link the library: a function for each digest, since C calls them by name.
 #![tactic(auto)]
 
 ghost use Rattle.std.specs.Prelude.{◌≡◌, slice_index};

@@ -57,6 +57,7 @@ pub(crate) fn filter_fields(positions: u32, count: u32) -> [u8; 12]
     [0, 4, 0, 32, m[0], m[1], m[2], m[3], c[0], c[1], c[2], c[3]]
 }
 
+// The opcode of each kind: one match for each of the two enums, which have nothing else alike.
 impl AnswerKind {
     fn opcode(self) -> Opcode
         ensures { opcode_number result ≡ answer_opcode self }

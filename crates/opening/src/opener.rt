@@ -22,7 +22,7 @@ pub struct Identity {
     pub positions: u32,
 }
 
-// What a message is opened as.
+// What a message is opened as: a closed set, so that each fact of it is one match.
 #[derive(Clone, Copy)]
 pub(crate) enum Call {
     Update,
@@ -72,7 +72,7 @@ impl Call {
 }
 
 impl Opener {
-    // The opener in plain numbers.
+    // The opener in plain numbers: what an opened update keeps of it, so a method, and no conversion of the type.
     pub fn identity(&self) -> Identity
         ensures { result ≡ identity self.now }
     {

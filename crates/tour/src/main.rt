@@ -40,7 +40,7 @@ fn refused(rt: &HostRuntime, refusal: StoreFault) -> anyhow::Result<()> {
     Ok(())
 }
 
-// The cache over the store that the plan asks for.
+// The cache over the store that the plan asks for: here, and in `run`, a word becomes a type.
 fn with_policy<P: Policy + Drop>(
     rt: &HostRuntime,
     plan: &Plan,

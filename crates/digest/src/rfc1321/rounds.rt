@@ -56,7 +56,7 @@ impl Registers {
         self.turn(f, word(x, k), SINES[i], s)
     }
 
-    // A step of round 1, by F. The auxiliary functions stand in the calls of `step`: F and G as functions of their own are compiled to longer chains.
+    // A step of round 1, by F. Each round writes its function out: as functions of the registers they are slower. The auxiliary functions stand in the calls of `step`: F and G as functions of their own are compiled to longer chains.
     fn ff(self, x: &[u8; 64], k: usize, s: u32, i: usize) -> Registers
         requires round { i / 16 ≡ 0 }
         requires listed { IsListed i k s }

@@ -1,4 +1,4 @@
-// The steps that keep a slice of entries a heap.
+// The steps that keep a slice of entries a heap. Each takes the entries and an index, as any function on a slice does.
 ghost use Rattle.std.specs.Prelude.{◌≡◌, ◌+◌, ◌-◌, ◌*◌, ◌<◌, ◌≤◌, ◌∷◌, length, take, MatchOption, slice_index_or};
 ghost use Rattle.std.specs.List.Sorted.{IsPermutation};
 ghost use Rattle.eviction.specs.Heaps.{Keeps, Lacks};
