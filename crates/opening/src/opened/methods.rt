@@ -213,7 +213,7 @@ impl<'m> Opened<'m> {
         Entries { rest: self.rest }
     }
 
-    // An entry of a change list, or none past the last.
+    // An entry of a change list, or none past the last. It is read at its place: `changes().nth(at)` would read all entries before it.
     pub fn entry(&self, at: usize) -> Option<Change>
         ensures { MatchOption result (length (entries_in self.now.rest.now) ≤ at) (λ e. (at < length (entries_in self.now.rest.now)) × (slice_index_or (entries_in self.now.rest.now) at e ≡ e)) }
     {
