@@ -20,15 +20,6 @@ names_push (q ∷ qs) x p = ap (λ b. eqb q p || b) (names_push qs x p) ∙ sym 
 pub names_more : (ps : List ℕ) (i p : ℕ) → i < length ps → names (take (i + 1) ps) p ≡ (names (take i ps) p || eqb (get_or ps i 0) p)
 names_more ps i p h = ap (λ l. names l p) (take_more ps i 0 h) ∙ names_push (take i ps) (get_or ps i 0) p
 
--- four words, each modulo m
-pub four_positions : (m : ℕ) (ws : List ℕ) → length ws ≡ 4 → positions m (get_or ws 0 0 ∷ get_or ws 1 0 ∷ get_or ws 2 0 ∷ get_or ws 3 0 ∷ []) ≡ positions m ws
-four_positions m [] h = absurd (omega arith)
-four_positions m (a ∷ []) h = absurd (omega arith)
-four_positions m (a ∷ b ∷ []) h = absurd (omega arith)
-four_positions m (a ∷ b ∷ c ∷ []) h = absurd (omega arith)
-four_positions m (a ∷ b ∷ c ∷ d ∷ []) h = refl
-four_positions m (a ∷ b ∷ c ∷ d ∷ e ∷ ws) h = absurd (omega arith)
-
 -- present, as the library's word for a test of every element
 pub present_all : (octets ps : List ℕ) → present octets ps ≡ list_all (bit octets) ps
 present_all octets [] = refl

@@ -1,24 +1,15 @@
 -- Rows by their places: one more, one less, and names that stand once.
-use Rattle.std.proofs.Common.{◌≡◌, ℕ, zero, suc, ◌<◌, ◌≤◌, Bool, true, false, ◌⊎◌, List, length, get_or, set, replicate, is_some, Some, None, Option, sym, refl, ap, ◌∙◌, subst, inl, inr, arith, MatchOption}
+use Rattle.std.proofs.Common.{◌≡◌, ℕ, ◌<◌, ◌≤◌, false, ◌⊎◌, List, length, get_or, set, is_some, Some, None, Option, sym, refl, ap, ◌∙◌, subst, inl, inr, arith}
 use Rattle.std.proofs.lemmas.List.{get_or_past, get_or-set_same, get_or-set_other, set_past}
 use Rattle.std.proofs.lemmas.Bool.{cases_eq, cases_lt, false≢true}
-use Rattle.store.specs.Contents.{Content, Contents, Unique, Absent, Free, Bears, Named, Good, Addable, Unaddable}
+use Rattle.store.specs.Contents.{Content, Contents, Unique, Absent, Bears, Named}
 
 pub none_some : {X : Type 0} {x : X} → None ≡ Some x → ⊥
 none_some e = let z : ◌≡◌ {A = ℕ} 0 1 = cc in absurd (omega arith)
 
-pub some_is : {X : Type 0} (o : Option X) → is_some o ≡ true → (x : X) × (o ≡ Some x)
-some_is None e = absurd (false≢true e)
-some_is (Some x) e = (x, refl)
-
 pub none_is : {X : Type 0} (o : Option X) → is_some o ≡ false → o ≡ None
 none_is None e = refl
 none_is (Some x) e = absurd (false≢true (sym e))
-
-pub get_or_replicated : {X : Type 0} (d : X) (n k : ℕ) → get_or (replicate n d) k d ≡ d
-get_or_replicated d zero k = refl
-get_or_replicated d (suc n) zero = refl
-get_or_replicated d (suc n) (suc k) = get_or_replicated d n k
 
 -- the name of a row, and the row by its name
 pub named_at : (rows : Contents) (i : ℕ) (name : List ℕ) → Bears (get_or rows i None) name → Named rows i name
@@ -81,13 +72,3 @@ unique_put rows i x h absent u j k a =
             | inr e ↦ u j k (record { first = a.first; second = a.second; at_i = d; at_j = e; same = a.same })
           ]
     ]
-
--- where a record may be added: what was found of its name, and a free place
-pub place_cases : (rows : Contents) (c : Content) (found : Option ℕ) (held : Bool) (r : Option ℕ) → held ≡ is_some found
-    → MatchOption found (Absent rows c.name) (λ p. Named rows p c.name)
-    → MatchOption r (Good c → held ≡ false → (i : ℕ) → Free rows i → ⊥) (λ p. Good c × (held ≡ false) × Free rows p)
-    → MatchOption r (Unaddable rows c) (λ p. Addable rows c p)
-place_cases rows c None held None e absent h = λ p may. h may.good e p may.free
-place_cases rows c (Some q) held None e named h = λ p may. may.absent q named.row named.here named.is
-place_cases rows c None held (Some p) e absent h = record { good = h.0; absent = absent; free = h.2 }
-place_cases rows c (Some q) held (Some p) e named h = absurd (false≢true (sym h.1 ∙ e))

@@ -27,7 +27,7 @@ pub fn clear_rows(rows: &mut [Row])
     rows.fill(Row::free());
 }
 
-// The first free place.
+// A free place: the first.
 pub fn free_place(rows: &[Row]) -> Option<usize>
     ensures { MatchOption result ((i : ℕ) → Free (contents rows.now) i → ⊥) (λ i. Free (contents rows.now) i) }
 {

@@ -28,11 +28,11 @@ pub trait Store {
     fn remove(&mut self, place: usize) -> Result<(), StoreFault>
         ensures { MatchResult result (λ _. Held (rows self.old) place × (rows self.new ≡ slice_set (rows self.old) place Nothing)) (λ f. (f ≡ StoreFault.NoRow) × (slice_index_or (rows self.old) place Nothing ≡ Nothing) × (self.new ≡ self.old)) };
 
-    // The first free place.
+    // A free place of the store's choice.
     fn free_place(&self) -> Option<usize>
         ensures { MatchOption result ((i : ℕ) → Free (rows self.now) i → ⊥) (λ i. Free (rows self.now) i) };
 
-    // A free place for a record that may be added.
+    // A free place, of the store's choice, for a record that may be added.
     fn place_for(&self, new: Record<'_>) -> Option<usize>
         ensures { MatchOption result (Unaddable (rows self.now) (given new.entry)) (λ place. Addable (rows self.now) (given new.entry) place) }
     {

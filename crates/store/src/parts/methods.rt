@@ -26,25 +26,25 @@ fn start_cell(name: &[u8]) -> usize
     Fnv.words(name)[0] as usize % CELLS
 }
 
-// The cell that a search comes to after others: upward, and around.
-fn cell_after(start: usize, steps: usize) -> usize
-    requires { (start < 2048) × (steps < 2048) }
-    ensures { result ≡ (start + steps) % 2048 }
-{
-    (start + steps) % CELLS
+// Where a walk along the cells stopped, and how many cells it went past before.
+#[derive(Clone, Copy)]
+pub(crate) struct Stop {
+    at: usize,
+    steps: usize,
 }
 
 impl Parts<'_> {
-    // How many cells the search for a name goes past before the first at which to stop.
-    fn steps_to<F: Fn(Cell) -> bool>(&self, name: &[u8], stop: F) -> Option<usize>
-        requires callable { F.IsAlwaysCallable stop }
-        ensures { MatchOption result (NeverStops (F.post stop) self.now.cells.now name.now 2048) (λ steps. StopsAt (F.post stop) self.now.cells.now name.now steps) }
+    // The first cell, upward and around from where the search for a name starts, that passes a test.
+    fn walk<F: Fn(Cell) -> bool>(&self, name: &[u8], test: F) -> Option<Stop>
+        requires callable { F.IsAlwaysCallable test }
+        ensures { MatchOption result (NeverStops (F.post test) self.now.cells.now name.now 2048) (λ stop. StopsAt (F.post test) self.now.cells.now name.now stop.steps × (stop.at ≡ (start name.now + stop.steps) % 2048)) }
     {
         let start = start_cell(name);
-        // Counted by hand: the range's `find` proves too, and takes half as long again.
+        // Counted by hand: by the range's `find`, which proves too, a search takes half as long again.
         for steps in 0..CELLS {
-            if stop(self.cells[cell_after(start, steps)]) {
-                return Some(steps);
+            let at = (start + steps) % CELLS;
+            if test(self.cells[at]) {
+                return Some(Stop { at, steps });
             }
         }
         None
@@ -65,10 +65,10 @@ impl Parts<'_> {
     pub(crate) fn search(&self, name: &[u8]) -> Probe
         ensures { Search (contents self.now.rows.now) self.now.cells.now name.now result.place result.looked }
     {
-        match self.steps_to(name, |cell| self.ends(cell, name)) {
-            Some(steps) => Probe {
-                place: self.cells[cell_after(start_cell(name), steps)].place(),
-                looked: steps + 1,
+        match self.walk(name, |cell| self.ends(cell, name)) {
+            Some(stop) => Probe {
+                place: self.cells[stop.at].place(),
+                looked: stop.steps + 1,
             },
             None => Probe {
                 place: None,
@@ -81,16 +81,16 @@ impl Parts<'_> {
     pub(crate) fn open_cell(&self, name: &[u8]) -> Option<usize>
         ensures { Opens self.now.cells.now name.now result }
     {
-        let steps = self.steps_to(name, |cell| !matches!(cell, Cell::Taken(_)))?;
-        Some(cell_after(start_cell(name), steps))
+        let stop = self.walk(name, |cell| !matches!(cell, Cell::Taken(_)))?;
+        Some(stop.at)
     }
 
     // The cell, on the way of the search for a name, that a place is in.
     pub(crate) fn cell_of(&self, name: &[u8], place: usize) -> Option<usize>
         ensures { MatchOption result ((j : ℕ) → j < 2048 → cell self.now.cells.now name.now j ≢ Placed place) (λ at. (at < 2048) × (slice_index_or self.now.cells.now at Unused ≡ Placed place)) }
     {
-        let steps = self.steps_to(name, |cell| cell.place() == Some(place))?;
-        Some(cell_after(start_cell(name), steps))
+        let stop = self.walk(name, |cell| cell.place() == Some(place))?;
+        Some(stop.at)
     }
 
     // A record comes to a place, and the place into a cell.

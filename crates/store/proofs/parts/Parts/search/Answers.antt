@@ -10,8 +10,8 @@ returns-in-Some c =
     let rows = contents c.args.self.now.rows.now in
     let cells = c.args.self.now.cells.now in
     let name = c.args.name.now in
-    let steps = c.in-Some.steps in
-    subst (λ p. Search rows cells name p (steps + 1)) (search rules) (stopped rows cells name _ steps c.in-Some.ensures (λ x b p. search (rules, tests)))
+    let steps = c.in-Some.stop.steps in
+    subst (λ p. Search rows cells name p (steps + 1)) (search rules) (stopped rows cells name _ steps c.in-Some.ensures.0 (λ x b p. search (rules, tests)))
 
 pub returns-in-None : goal.returns-in-None
 returns-in-None c = never_stopped _ _ _ _ c.in-None.ensures (λ x b p. search (rules, tests))
