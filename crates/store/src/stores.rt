@@ -50,12 +50,7 @@ pub trait Store {
     fn read(&self, place: usize, row: &mut Row) -> Result<(), StoreFault>
         ensures { MatchResult result (λ _. Held (rows self.now) place × (content row.new ≡ slice_index_or (rows self.now) place Nothing)) (λ f. (f ≡ StoreFault.NoRow) × (slice_index_or (rows self.now) place Nothing ≡ Nothing) × (row.new ≡ row.old)) }
     {
-        match self.row(place) {
-            Some(here) => {
-                *row = here;
-                Ok(())
-            }
-            None => Err(StoreFault::NoRow),
-        }
+        *row = self.row(place).ok_or(StoreFault::NoRow)?;
+        Ok(())
     }
 }

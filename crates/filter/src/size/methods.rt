@@ -9,10 +9,11 @@ impl FilterSize {
     pub fn new(positions: u32) -> Option<FilterSize>
         ensures { MatchOption result (Sized positions → ⊥) (λ s. Sized positions × (s.positions ≡ positions)) }
     {
-        if positions < 64 || positions > 65536 || positions % 8 != 0 {
-            return None;
+        if (64..=65536).contains(&positions) && positions % 8 == 0 {
+            Some(FilterSize { positions })
+        } else {
+            None
         }
-        Some(FilterSize { positions })
     }
 
     // The number of positions.

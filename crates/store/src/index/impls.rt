@@ -38,9 +38,7 @@ impl Store for HashedIndex<'_> {
         ensures rows { MatchResult result (λ _. Held (contents self.old.parts.rows.now) place × (contents self.new.parts.rows.now ≡ slice_set (contents self.old.parts.rows.now) place Nothing)) (λ f. (f ≡ StoreFault.NoRow) × (slice_index_or (contents self.old.parts.rows.now) place Nothing ≡ Nothing) × (self.new ≡ self.old)) }
         ensures cells { OnOk result (Gave self.old.parts.cells.now place self.new.parts.cells.now) }
     {
-        let Some(row) = self.row(place) else {
-            return Err(StoreFault::NoRow);
-        };
+        let row = self.row(place).ok_or(StoreFault::NoRow)?;
         let at = self
             .parts
             .cell_of(row.name(), place)

@@ -78,9 +78,6 @@ impl Row {
     pub(crate) fn is_named(&self, name: &[u8]) -> bool
         ensures { Decides result (Bears (content self.now) name.now) }
     {
-        match &self.stored {
-            Some(stored) => stored.name() == name,
-            None => false,
-        }
+        self.stored.is_some_and(|stored| stored.name() == name)
     }
 }

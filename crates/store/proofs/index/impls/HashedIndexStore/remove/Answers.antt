@@ -1,7 +1,7 @@
 use Rattle.std.proofs.Common.{◌≡◌, ℕ, ◌<◌, length, get_or, Some, None, sym, ap, ◌∙◌, subst, arith, rules}
 use Rattle.std.proofs.lemmas.List.{length-set}
 use Rattle.store.specs.declared.cell.Cell.TheVariants.{Never, Freed, Taken}
-use Rattle.store.specs.Contents.{Unique}
+use Rattle.store.specs.Contents.{Held, Unique}
 use Rattle.store.specs.Indexed.{Points, Once, Reaches, Paired}
 use Rattle.store.specs.Search.{cell}
 use Rattle.store.specs.Rows.{content, contents}
@@ -13,7 +13,7 @@ use Rattle.store.proofs.index.impls.HashedIndexStore.remove.Goals as goal
 pub invariant_of-self : goal.invariant_of-self
 invariant_of-self c =
     let s = c.args.self.now in
-    let held = c.in-Some.ensures.0 in
+    let held : Held (contents s.parts.rows.now) c.args.place = search rules in
     let found : (c.in_ok-at.at < 2048) × (get_or s.parts.cells.now c.in_ok-at.at Never ≡ Taken c.args.place) = search rules in
     let rows = contents s.parts.rows.now in
     let cells = s.parts.cells.now in
@@ -43,8 +43,9 @@ invariant_of-self c =
 pub returns-in_err-at-clause-rows : goal.returns-in_err-at-clause-rows
 returns-in_err-at-clause-rows c =
     let s = c.args.self.now in
-    let held = c.in-Some.ensures.0 in
-    let is : content c.in-Some.row ≡ Some held.row = c.in-Some.ensures.1 ∙ held.here in
+    let held : Held (contents s.parts.rows.now) c.args.place = search rules in
+    let same : content c.in_ok-row.row ≡ get_or (contents s.parts.rows.now) c.args.place None = search rules in
+    let is : content c.in_ok-row.row ≡ Some held.row = same ∙ held.here in
     let none : (j : ℕ) → j < 2048 → cell s.parts.cells.now c.name.result.now j ≡ Taken c.args.place → ⊥ = search rules in
     absurd
     (unreached (contents s.parts.rows.now) s.parts.cells.now c.args.place held.row held.here s.reaches c.name.result.now
