@@ -26,7 +26,7 @@ pub trait Channel {
     fn size(&self) -> FilterSize
         ensures { result.positions ≡ size self.now };
 
-    // Sends a message to a house; the two are one letter in the clauses, and two arguments here, as a caller has them. The house is checked first, then the length, then the room; what is refused changes nothing.
+    // Sends a message to a house. The clauses make one letter of the two; here they are two arguments, since no caller and no layer keeps them together. The house is checked first, then the length, then the room; what is refused changes nothing.
     fn send(&mut self, to: u32, message: &[u8]) -> Result<(), ChannelFault>
         ensures allowed { MatchResult result (λ _. Sendable (size self.old) (letter to message.now) × (full self.old (letter to message.now) → ⊥)) (λ f. WhyUnsent f (size self.old) (letter to message.now) (full self.old (letter to message.now))) }
         ensures exactly { MatchResult result (λ _. accepts self.old (letter to message.now) self.new) (λ _. self.new ≡ self.old) }

@@ -9,7 +9,7 @@ use filter::FilterSize;
 mod impls;
 mod methods;
 
-// Keeps up to 32 messages in order, and loses none. The waiting ones stand in the first slots, oldest first, with their count beside them: the other slots are kept for later messages, so that no sending allocates.
+// Keeps up to 32 messages in order, and loses none. The waiting ones stand in the first slots, oldest first, with their count beside them: the other slots are kept for later messages, and a second `Vec` for them would be memory to allocate.
 #[derive(Drop)]
 pub struct Queue {
     size: FilterSize,

@@ -3,7 +3,7 @@ ghost use Rattle.std.specs.Prelude.{◌≤◌, vec_len};
 
 mod methods;
 
-// A house, and a message at the front of the octets, with its length beside them: the octets are made once, so that no sending allocates.
+// A house, and a message at the front of the octets, with its length beside them: the octets are made once, and a `Vec` with the message's length would take it octet by octet where nothing may be allocated.
 #[derive(Drop)]
 pub struct Slot {
     to: u32,

@@ -6,7 +6,7 @@ use crate::size::FilterSize;
 use digest::Digest;
 
 // The positions of one name, in the order of its digest's words; one may stand twice.
-#[derive(Clone, Copy, Debug)]
+#[derive(Clone, Copy, PartialEq, Eq, Debug)]
 pub struct Receipt {
     pub(crate) positions: [u32; 4],
 }

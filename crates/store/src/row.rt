@@ -3,7 +3,7 @@ ghost use Rattle.std.specs.Prelude.{◌≤◌};
 
 mod methods;
 
-// A record in memory. A store takes no other memory than its rows, so the name stands at the front of octets of its own.
+// A record in memory. A row is copied and a store takes no other memory, so the name stands at the front of octets of its own, with its length beside them.
 #[derive(Clone, Copy)]
 struct Stored {
     name: [u8; 128],

@@ -1,7 +1,7 @@
 // A small cache: a store, a policy and a heap of ranks.
 use crate::plan::{Line, Plan};
 use crate::probing::Probing;
-use anyhow::anyhow;
+use anyhow::{Context, anyhow};
 use digest::Md5;
 use eviction::{Entry, EvictionHeap, Policy, evict_least};
 use fault::Refusal;
@@ -34,17 +34,12 @@ impl<P: Policy + Drop, S: Probing + Drop> Cache<P, S> {
         policy: P,
         store: S,
     ) -> anyhow::Result<Cache<P, S>> {
-        let Some(size) = FilterSize::new(POSITIONS) else {
-            return Err(anyhow!("a filter cannot have so many positions"));
-        };
+        let size = FilterSize::new(POSITIONS).context("a filter cannot have so many positions")?;
         let blank = Entry {
             rank: policy.rank(0, 1, 1),
             place: 0,
         };
-        let mut entries = Vec::new(heap);
-        for _ in 0..plan.places {
-            entries.push(blank)?;
-        }
+        let entries = vec![in heap; blank; plan.places]?;
         let filter = CountingFilter::new(heap, size)?;
         Ok(Cache {
             store,

@@ -5,7 +5,7 @@ mod cache;
 mod plan;
 mod probing;
 
-use anyhow::anyhow;
+use anyhow::Context;
 use cache::Cache;
 use eviction::{GreedyDualSize, Lru, Policy};
 use fault::Refusal;
@@ -48,13 +48,13 @@ fn with_policy<P: Policy + Drop>(
     text: &str,
 ) -> anyhow::Result<()> {
     let mut rows = vec![in rt.alloc(); Row::free(); plan.places]?;
-    let mut cells = vec![in rt.alloc(); Cell::Never; CELLS]?;
     match plan.store {
         StoreChoice::Table => match Table::new(plan.places, rows.as_mut_slice()) {
             Ok(table) => serve(rt, plan, policy, table, text),
             Err((refusal, _)) => refused(rt, refusal),
         },
         StoreChoice::Index => {
+            let mut cells = vec![in rt.alloc(); Cell::Never; CELLS]?;
             match HashedIndex::new(plan.places, rows.as_mut_slice(), cells.as_mut_slice()) {
                 Ok(index) => serve(rt, plan, policy, index, text),
                 Err((refusal, _, _)) => refused(rt, refusal),
@@ -67,9 +67,7 @@ fn run(rt: &HostRuntime) -> anyhow::Result<()> {
     let mut text = String::new(rt.alloc());
     rt.stdin().read_to_string(&mut text)?;
     let text = text.as_str();
-    let Some(plan) = Plan::read(text) else {
-        return Err(anyhow!("the first line gives policy, store, places and capacity"));
-    };
+    let plan = Plan::read(text).context("the first line gives policy, store, places and capacity")?;
     match plan.policy {
         PolicyChoice::Lru => with_policy(rt, &plan, Lru::new(), text),
         PolicyChoice::GreedyDualSize => with_policy(rt, &plan, GreedyDualSize::new(), text),

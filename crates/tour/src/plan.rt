@@ -1,7 +1,7 @@
 // What the tour is asked to do.
 use std::str::FromStr;
 
-// A word or a line that says nothing of what is wanted.
+// A word that says nothing of what is wanted.
 #[derive(Clone, Copy, PartialEq, Eq, Debug)]
 pub struct Unread;
 

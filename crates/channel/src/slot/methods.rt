@@ -7,7 +7,7 @@ use super::Slot;
 use std::alloc::{AllocError, Global};
 
 impl Slot {
-    // A slot of so many octets.
+    // A slot of so many octets. It is made as a filter is: two lines, and a type with a fact of its own.
     pub fn new(heap: Global, octets: usize) -> Result<Slot, AllocError>
         ensures { IfOk result (λ s. space s ≡ octets) }
     {

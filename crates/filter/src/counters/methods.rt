@@ -10,7 +10,7 @@ use std::alloc::{AllocError, Global};
 
 // Each call says that the size remains: that is a fact of two moments, which no ghost field can state.
 impl CountingFilter {
-    // A filter in which no counter is above 0.
+    // A filter in which no counter is above 0. A summary is made likewise, but for the length: two types, with facts of their own.
     pub fn new(heap: Global, size: FilterSize) -> Result<CountingFilter, AllocError>
         ensures { IfOk result (λ f. (f.size ≡ size) × (f.counters.items ≡ replicate size.positions 0)) }
     {

@@ -9,7 +9,7 @@ use crate::size::{FilterSize, OtherSize};
 use std::alloc::{AllocError, Global};
 
 impl Summary {
-    // A summary in which every bit is 0. It is made as a filter is, but for the length: two types, with facts of their own.
+    // A summary in which every bit is 0. A filter is made likewise, but for the length: two types, with facts of their own.
     pub fn new(heap: Global, size: FilterSize) -> Result<Summary, AllocError>
         ensures { IfOk result (λ s. (s.size ≡ size) × (s.octets.items ≡ replicate (size.positions / 8) 0)) }
     {

@@ -1,4 +1,4 @@
-// A table is a store.
+// A table is a store. What it does as an index does stands in `lent` and in the trait; each hands its own rows on.
 ghost use Rattle.store.specs.Rows.{contents};
 
 use super::Table;
