@@ -24,7 +24,7 @@ def lines(pattern, skip=r"ghost |^\s*//"):
 
 def functions():
     """Each function: where it stands, its name, its parameters, its clauses, its tokens."""
-    head = re.compile(r"^( *)(?:pub(?:\(\w+\))? )?(?:const )?(?:extern \"C\" )?fn (\w+)(?:<[^(]*>)?\(", re.M)
+    head = re.compile(r"^( *)(?:pub(?:\(\w+\))? )?(?:const )?(?:extern \"C\" )?fn (\w+)(?:<.*?>)?\(", re.M)
     for name, text in TEXT.items():
         for found in head.finditer(text):
             indent = found.group(1)

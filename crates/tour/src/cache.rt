@@ -56,8 +56,7 @@ impl<P: Policy + Drop, S: Probing + Drop> Cache<P, S> {
 
     // A record that is held is used; another is admitted, once there is room for it.
     pub(crate) fn admit(&mut self, rt: &HostRuntime, line: &Line<'_>) -> anyhow::Result<()> {
-        let name = line.name;
-        let record = line.record();
+        let Line { name, record } = *line;
         if !record.is_good() {
             println!(rt; "bad {name}")?;
             return Ok(());
@@ -113,8 +112,7 @@ impl<P: Policy + Drop, S: Probing + Drop> Cache<P, S> {
 
     // A record comes, ranked after what it evicted.
     fn enter(&mut self, rt: &HostRuntime, line: &Line<'_>) -> anyhow::Result<()> {
-        let name = line.name;
-        let record = line.record();
+        let Line { name, record } = *line;
         match self.store.add(record) {
             Ok(place) => {
                 let rank = self.policy.rank(self.stamp, record.size, record.cost);

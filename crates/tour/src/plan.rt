@@ -1,5 +1,6 @@
 // What the tour is asked to do.
 use std::str::FromStr;
+use store::Record;
 
 // A word that says nothing of what is wanted.
 #[derive(Clone, Copy, PartialEq, Eq, Debug)]
@@ -65,12 +66,11 @@ impl Plan {
     }
 }
 
-// A line: size, cost and name.
+// A line: size, cost and name; the name as text, and the record.
 #[derive(Clone, Copy, PartialEq, Eq, Debug)]
 pub struct Line<'t> {
     pub name: &'t str,
-    pub size: u32,
-    pub cost: u16,
+    pub record: Record<'t>,
 }
 
 impl<'t> Line<'t> {
@@ -79,15 +79,11 @@ impl<'t> Line<'t> {
         let size = words.next()?.parse::<u32>().ok()?;
         let cost = words.next()?.parse::<u16>().ok()?;
         let name = words.next()?;
-        Some(Line { name, size, cost })
-    }
-
-    // The record that the line names.
-    pub(crate) fn record(&self) -> store::Record<'t> {
-        store::Record {
-            name: self.name.as_bytes(),
-            size: self.size,
-            cost: self.cost,
-        }
+        let record = Record {
+            name: name.as_bytes(),
+            size,
+            cost,
+        };
+        Some(Line { name, record })
     }
 }
