@@ -27,7 +27,7 @@ pub trait Digest {
     ghost narrow: { (name : List ℕ) → AllByRecursion (λ w. w < 2 ^ 32) (words name) };
 }
 
-// A word of a name's digest by its number, and 0 past the four: for callers that know no trait.
+// A word of a name's digest by its number, and 0 past the four, so that each C export is one call.
 pub fn word_of<D: Digest>(digest: &D, name: &[u8], number: usize) -> u32
     ensures { result ≡ slice_index (D.words name.now) number }
 {

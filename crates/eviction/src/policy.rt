@@ -25,6 +25,7 @@ pub trait Policy {
     fn new() -> Self
         ensures { result ≡ start };
 
+    // Three arguments, since they are what ranks a record: a policy knows no store, nor its records.
     fn rank(&self, stamp: u32, size: u32, cost: u16) -> Self::Rank
         ensures { result ≡ ranked self.now stamp size cost };
 

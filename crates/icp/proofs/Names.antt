@@ -1,7 +1,6 @@
 -- Good names, tested.
-use Rattle.std.proofs.Common.{◌≡◌, ℕ, zero, suc, ◌<◌, ◌≤◌, Bool, true, ◌&&◌, leb, List, [], ◌∷◌, length, get_or, Decides, refl, arith}
+use Rattle.std.proofs.Common.{◌≡◌, ℕ, zero, suc, ◌<◌, ◌≤◌, true, ◌&&◌, leb, List, [], ◌∷◌, length, get_or, Decides, refl, arith}
 use Rattle.std.proofs.lemmas.Bool.{and_parts, and_from, leb-true, le-leb}
-use Rattle.std.proofs.lemmas.Bool.Decides.{same_from_decides}
 use Rattle.store.specs.Contents.{GoodName}
 use Rattle.icp.specs.Names.{nonzero, nameable}
 
@@ -25,6 +24,3 @@ nameable_decides name =
           record { some = leb-true 1 n q.0; short = leb-true n 128 q.1; nonzero = nonzero_at name p.1 }),
       (λ g. and_from sized (nonzero name) (and_from (leb 1 n) (leb n 128) (le-leb 1 n g.some) (le-leb n 128 g.short)) (nonzero_from name g.nonzero)),
     )
-
-pub nameable_is : (name : List ℕ) (r : Bool) → Decides r (GoodName name) → nameable name ≡ r
-nameable_is name r d = same_from_decides (nameable name) r (nameable_decides name) d

@@ -63,6 +63,7 @@ impl<'s> ChangeList<'s> {
         ensures { out.new ≡ listed out.old self.entry.before.now.octets.items self.entry.after.now.octets.items self.entry.after.now.size.positions }
     {
         let pairs = self.before.octets().iter().zip(self.after.octets());
+        // The place is counted, since only positions that differ are written.
         let mut at = 32;
         for (i, (before, after)) in pairs.enumerate() {
             if before == after {

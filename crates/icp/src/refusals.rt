@@ -4,7 +4,7 @@ ghost use Rattle.icp.specs.Faults.{message_fault};
 
 use fault::{Fault, Layer, Refusal};
 
-// Why a message was not written or not opened, at which house, and for which of the message's request numbers where it is told: only five cases have one, so that each case has its own fields.
+// Why a house did not write or open a message. Only five cases tell a version, the message's request number, so each case has fields of its own.
 #[derive(Clone, Copy, PartialEq, Eq, Debug)]
 pub enum MessageFault {
     // writing: no version comes after this one

@@ -24,6 +24,7 @@ pub(crate) fn put_parts(out: &mut [u8], parts: &[&[u8]])
     requires { length (flat_map (λ p. p.now) parts.now) ≤ length out.old }
     ensures { out.new ≡ begins (flat_map (λ p. p.now) parts.now) out.old }
 {
+    // The place is counted, since the parts differ in length.
     let mut at = 0;
     for part in parts {
         put(out, at, part);

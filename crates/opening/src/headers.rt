@@ -15,13 +15,14 @@ fn wrong_length(call: Call, message: &[u8]) -> bool
 }
 
 // Whether a first octet is the opcode of a message that has no option data.
+#[tactic(auto, using(crate::proofs::Opcodes::within_none))]
 fn is_without_data(number: u8) -> bool
     ensures { result ≡ (nat_le 1 number && nat_le number 3) }
 {
-    let Ok(opcode) = Opcode::try_from(number) else {
-        return false;
-    };
-    matches!(opcode, Opcode::Query | Opcode::Hit | Opcode::Miss)
+    matches!(
+        Opcode::try_from(number),
+        Ok(Opcode::Query | Opcode::Hit | Opcode::Miss)
+    )
 }
 
 // Whether a message is of another version, or has options or data where none are.
@@ -48,7 +49,7 @@ fn wrong_sender(call: Call, opener: &Opener, message: &[u8]) -> bool
     }
 }
 
-// The header of a message that passes these checks.
+// The header of a message that passes these checks. Call, opener and message are the arguments of the opening itself, and make no value of their own.
 pub(crate) fn open_header(
     call: Call,
     opener: &Opener,

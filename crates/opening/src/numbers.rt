@@ -2,7 +2,7 @@
 ghost use Rattle.std.specs.Prelude.{◌≡◌, ◌+◌, ◌≤◌, length};
 ghost use Rattle.icp.specs.Numbers.{number2, number4};
 
-// Two readers, since no trait has the `from_be_bytes` of both widths: one of any width would still need a call for each.
+// Two readers: one of any width, answering `[u8; N]`, would leave the conversion to each call, since no trait has the `from_be_bytes` of both.
 
 // The number in two octets.
 pub(crate) fn number2(octets: &[u8], at: usize) -> u16

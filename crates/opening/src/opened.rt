@@ -21,7 +21,7 @@ pub struct Opened<'m> {
 }
 
 // The entries of a change list that are left to read.
-#[derive(Clone, Copy, PartialEq, Eq, Debug)]
+#[derive(Clone, PartialEq, Eq, Debug, Drop)]
 pub struct Entries<'m> {
     rest: &'m [u8],
 }

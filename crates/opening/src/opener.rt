@@ -14,7 +14,7 @@ pub struct Opener {
     pub size: FilterSize,
 }
 
-// The same in plain numbers, as an opened update keeps it.
+// The same in plain numbers: an opened update is a token of plain numbers, which is moved on to other crates.
 #[derive(Clone, Copy, PartialEq, Eq, Debug)]
 pub struct Identity {
     pub number: u32,
@@ -60,19 +60,14 @@ impl Call {
     pub(crate) fn opcode(self, number: u8) -> Option<Opcode>
         ensures { MatchOption result (opens self number ≡ false) (λ o. (opens self number ≡ true) × (opcode_number o ≡ number)) }
     {
-        let Ok(opcode) = Opcode::try_from(number) else {
-            return None;
-        };
-        if self.opens(opcode) {
-            Some(opcode)
-        } else {
-            None
-        }
+        Opcode::try_from(number)
+            .ok()
+            .filter(|opcode| self.opens(*opcode))
     }
 }
 
 impl Opener {
-    // The opener in plain numbers: what an opened update keeps of it, so a method, and no conversion of the type.
+    // The opener in plain numbers, as an opened update keeps it. `From` would give the same method under a less telling name.
     pub fn identity(&self) -> Identity
         ensures { result ≡ identity self.now }
     {

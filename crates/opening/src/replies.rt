@@ -16,11 +16,7 @@ fn name_in(text: &[u8]) -> Option<&[u8]>
     ensures { MatchOption result (wrong_text text.now ≡ true) (λ name. (wrong_text text.now ≡ false) × (name.now ≡ all_but_last text.now)) }
 {
     let (end, name) = text.split_last()?;
-    if *end == 0 && good_name(name) {
-        Some(name)
-    } else {
-        None
-    }
+    (*end == 0 && good_name(name)).then_some(name)
 }
 
 impl Opener {
@@ -50,9 +46,10 @@ impl Opener {
                 version: header.request,
             });
         }
-        let kind = match header.opcode {
-            Opcode::Acknowledgement => AnswerKind::Acknowledgement,
-            _ => AnswerKind::CallForWhole,
+        let kind = if header.opcode == Opcode::Acknowledgement {
+            AnswerKind::Acknowledgement
+        } else {
+            AnswerKind::CallForWhole
         };
         Ok(Answer {
             kind,
@@ -87,9 +84,10 @@ impl Opener {
         if header.request != request || named != name {
             return Err(MessageFault::Reply { house: self.number });
         }
-        let kind = match header.opcode {
-            Opcode::Hit => ReplyKind::Hit,
-            _ => ReplyKind::Miss,
+        let kind = if header.opcode == Opcode::Hit {
+            ReplyKind::Hit
+        } else {
+            ReplyKind::Miss
         };
         Ok(Reply {
             kind,

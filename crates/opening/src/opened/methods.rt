@@ -65,9 +65,10 @@ impl<'m> Incoming<'m> {
     fn kind(self) -> UpdateKind
         ensures { result ≡ kind_of (opcode_in self.entry.message.now) }
     {
-        match self.header.opcode {
-            Opcode::Changes => UpdateKind::Changes,
-            _ => UpdateKind::Whole,
+        if self.header.opcode == Opcode::Changes {
+            UpdateKind::Changes
+        } else {
+            UpdateKind::Whole
         }
     }
 

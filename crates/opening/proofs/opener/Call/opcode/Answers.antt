@@ -1,5 +1,6 @@
+use Rattle.std.proofs.Common.{rules}
 use Rattle.opening.proofs.Opcodes.{opens_none}
 use Rattle.opening.proofs.opener.Call.opcode.Goals as goal
 
-pub returns-in_default : goal.returns-in_default
-returns-in_default c = opens_none c.args.number c.in_default.ensures.1 c.args.self
+pub returns : goal.returns
+returns c = let none = opens_none c.args.number in search rules

@@ -24,5 +24,5 @@ returns c =
     let xs = c.args.message.now in
     let same : other_query c.in_ok-header.header.request c.in_ok-header.named.now c.args.request c.args.name.now ≡ false = search rules in
     let read : other_query (request_in xs) (all_but_last (drop 20 xs)) c.args.request c.args.name.now ≡ false = search rules in
-    let says : reply_as c.match-header.kind c.in_ok-header.header.sender c.in_ok-header.header.request c.in_ok-header.named.now ≡ reply_in xs = search rules in
+    let says : reply_as c.if-eq.kind c.in_ok-header.header.sender c.in_ok-header.header.request c.in_ok-header.named.now ≡ reply_in xs = search rules in
     (search rules, says)
