@@ -36,7 +36,7 @@ pub enum MessageFault {
 }
 
 impl MessageFault {
-    // The number under which each case is reported: reports alone have numbers.
+    // The number under which each case is reported: a match, since cases with fields have no numbers of their own.
     fn number(self) -> u8
         ensures { result ≡ (message_fault self).number }
     {

@@ -40,7 +40,7 @@ impl Parts<'_> {
         ensures { MatchOption result (NeverStops (F.post test) self.now.cells.now name.now 2048) (λ stop. StopsAt (F.post test) self.now.cells.now name.now stop.steps × (stop.at ≡ (start name.now + stop.steps) % 2048)) }
     {
         let start = start_cell(name);
-        // Counted by hand: by the range's `find`, which proves too, a search takes half as long again.
+        // Counted by hand: by the range's `find`, which proves too, a search takes 1.4 times as long.
         for steps in 0..CELLS {
             let at = (start + steps) % CELLS;
             if test(self.cells[at]) {

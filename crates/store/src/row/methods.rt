@@ -78,6 +78,8 @@ impl Row {
     pub(crate) fn is_named(&self, name: &[u8]) -> bool
         ensures { Decides result (Bears (content self.now) name.now) }
     {
-        self.stored.is_some_and(|stored| stored.name() == name)
+        self.stored
+            .as_ref()
+            .is_some_and(|stored| stored.name() == name)
     }
 }
