@@ -32,24 +32,25 @@ impl Answers {
         self.digest
     }
 
-    fn note(&mut self, octet: u8) {
+    // A step of FNV-1a, written out: octets come one by one, and `Fnv` takes a whole name.
+    fn mix(&mut self, octet: u8) {
         self.digest = (self.digest ^ octet as u64).wrapping_mul(0x100000001b3);
     }
 
-    fn note_octets(&mut self, octets: &[u8]) {
+    fn mix_octets(&mut self, octets: &[u8]) {
         for octet in octets {
-            self.note(*octet);
+            self.mix(*octet);
         }
     }
 
-    fn note_number(&mut self, number: u32) {
-        self.note_octets(&number.to_be_bytes());
+    fn mix_number(&mut self, number: u32) {
+        self.mix_octets(&number.to_be_bytes());
     }
 
     fn tally(&mut self, number: u8) {
         let count = &mut self.counts[(number & 31) as usize];
         *count = count.saturating_add(1);
-        self.note(number);
+        self.mix(number);
     }
 
     // What a call answered.
@@ -62,9 +63,9 @@ impl Answers {
             Err(refusal) => {
                 let fault = refusal.fault();
                 self.tally(fault.number);
-                self.note(fault.layer.number());
-                self.note_number(fault.house);
-                self.note_number(fault.version);
+                self.mix(fault.layer.number());
+                self.mix_number(fault.house);
+                self.mix_number(fault.version);
             }
         }
     }
@@ -81,48 +82,48 @@ impl Answers {
 // Entry by entry, or octet by octet.
 impl Noted for Opened<'_> {
     fn note(&self, answers: &mut Answers) {
-        answers.note_number(self.sender());
-        answers.note_number(self.version());
+        answers.mix_number(self.sender());
+        answers.mix_number(self.version());
         match self.kind() {
             UpdateKind::Changes => {
                 for change in self.changes() {
-                    answers.note_number(change.position);
-                    answers.note(u8::from(change.value));
+                    answers.mix_number(change.position);
+                    answers.mix(u8::from(change.value));
                 }
             }
-            UpdateKind::Whole => answers.note_octets(self.rest()),
+            UpdateKind::Whole => answers.mix_octets(self.rest()),
         }
     }
 }
 
 impl Noted for Answer {
     fn note(&self, answers: &mut Answers) {
-        answers.note(match self.kind {
+        answers.mix(match self.kind {
             AnswerKind::Acknowledgement => 0,
             AnswerKind::CallForWhole => 1,
         });
-        answers.note_number(self.sender);
-        answers.note_number(self.held);
-        answers.note_number(self.owner);
+        answers.mix_number(self.sender);
+        answers.mix_number(self.held);
+        answers.mix_number(self.owner);
     }
 }
 
 impl Noted for Query<'_> {
     fn note(&self, answers: &mut Answers) {
-        answers.note_number(self.sender);
-        answers.note_number(self.request);
-        answers.note_octets(self.name);
+        answers.mix_number(self.sender);
+        answers.mix_number(self.request);
+        answers.mix_octets(self.name);
     }
 }
 
 impl Noted for Reply<'_> {
     fn note(&self, answers: &mut Answers) {
-        answers.note(match self.kind {
+        answers.mix(match self.kind {
             ReplyKind::Hit => 1,
             ReplyKind::Miss => 0,
         });
-        answers.note_number(self.sender);
-        answers.note_number(self.request);
-        answers.note_octets(self.name);
+        answers.mix_number(self.sender);
+        answers.mix_number(self.request);
+        answers.mix_octets(self.name);
     }
 }

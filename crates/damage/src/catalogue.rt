@@ -89,7 +89,7 @@ impl Catalogue {
         )
     }
 
-    // Writes a message of a kind from a sibling.
+    // Writes a message of a kind from a sibling: a match on the kind drawn, since a declaration draws numbers of its own, after the sibling's.
     fn write(&mut self, random: &mut Random, kind: Kind) -> Result<usize, MessageFault> {
         let sender = random.pick(&SIBLINGS);
         let request = self.request;

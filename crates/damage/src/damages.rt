@@ -38,6 +38,13 @@ fn set(message: &mut [u8], at: usize, octet: u8) {
     }
 }
 
+// Writes octets from a place on, as far as the message goes.
+fn set_from(message: &mut [u8], at: usize, octets: &[u8]) {
+    for (octet, new) in message.iter_mut().skip(at).zip(octets) {
+        *octet = *new;
+    }
+}
+
 // Some bits of an octet turn.
 fn flip(message: &mut [u8], random: &mut Random) {
     let at = place(message, random);
@@ -60,12 +67,10 @@ fn exchange(message: &mut [u8], random: &mut Random) {
 fn refill(message: &mut [u8], random: &mut Random) {
     let at = 4 * random.below(9) as usize;
     let number = random.below(6).to_be_bytes();
-    for (octet, new) in message.iter_mut().skip(at).zip(&number) {
-        *octet = *new;
-    }
+    set_from(message, at, &number);
 }
 
-// One damage.
+// One damage: a match on the harm drawn, since each harm draws numbers of its own, in this order.
 fn hurt(message: &mut Vec<u8>, random: &mut Random) -> anyhow::Result<()> {
     match random.pick(&HARMS) {
         Harm::Flip => flip(message.as_mut_slice(), random),
@@ -99,9 +104,7 @@ pub(crate) fn damage(message: &mut Vec<u8>, random: &mut Random) -> anyhow::Resu
     }
     if random.below(4) != 0 {
         let length = (message.len() & 0xffff) as u16;
-        for (octet, new) in message.iter_mut().skip(2).zip(&length.to_be_bytes()) {
-            *octet = *new;
-        }
+        set_from(message.as_mut_slice(), 2, &length.to_be_bytes());
     }
     Ok(())
 }

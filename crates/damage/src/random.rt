@@ -1,4 +1,4 @@
-// Numbers without an order, the same in every run.
+// Numbers without an order, the same in every run. The step is that of `measure`: programs share no code of their own.
 ghost use Rattle.std.specs.Prelude.{◌<◌, ◌^◌, length};
 
 #[derive(Drop)]
