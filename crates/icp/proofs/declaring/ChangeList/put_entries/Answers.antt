@@ -36,37 +36,6 @@ loop-i-preserved-then-before-after c =
       written = c.loop-i.invariant.written ∙ sym (ap (λ es. begins (take 32 xs ++ flat_map entry_octets es) xs) same);
     }
 
-pub loop-k-init : goal.loop-k-init
-loop-k-init c =
-    let l = c.args.self in
-    let a = vec_items l.before.now.octets in
-    let b = vec_items l.after.now.octets in
-    let n = length c.loop-i.yielded in
-    let p : ℕ × (Bor ℕ × Bor ℕ) = (c.in-Some.i, (c.in-Some.before, c.in-Some.after)) in
-    let turn : Turn a b n c.in-Some.i c.in-Some.before.now c.in-Some.after.now =
-    numbered_turn a b c.loop-i.yielded c.into_iter-i-iterator.result c.loop-i.i-iterator c.next.new.self c.next.result p (sized l.before.now l.after.now l.one_size) (cc) (cc) (cc) c.loop-i.yielded_by c.in-Some.is c.next.ensures.steps in
-    let on : 8 * n ≡ 8 * c.in-Some.i + 0 = omega (arith, turn.number) in
-    record {
-      placed = c.loop-i.invariant.placed ∙ ap (λ z. 32 + 4 * length (changed a b z)) on;
-      written = c.loop-i.invariant.written ∙ ap (listed c.args.out.now a b) on;
-      turn = subst (λ z. Turn a b z c.in-Some.i c.in-Some.before.now c.in-Some.after.now) (sym turn.number) turn;
-    }
-
-pub loop-i-preserved : goal.loop-i-preserved
-loop-i-preserved c =
-    let l = c.args.self in
-    let a = vec_items l.before.now.octets in
-    let b = vec_items l.after.now.octets in
-    let n = length c.loop-i.yielded in
-    let p : ℕ × (Bor ℕ × Bor ℕ) = (c.in-Some.i, (c.in-Some.before, c.in-Some.after)) in
-    let turn : Turn a b n c.in-Some.i c.in-Some.before.now c.in-Some.after.now =
-    numbered_turn a b c.loop-i.yielded c.into_iter-i-iterator.result c.loop-i.i-iterator c.next.new.self c.next.result p (sized l.before.now l.after.now l.one_size) (cc) (cc) (cc) c.loop-i.yielded_by c.in-Some.is c.next.ensures.steps in
-    let on : 8 * c.in-Some.i + c.loop-k.k ≡ 8 * length (c.loop-i.yielded ++ p ∷ []) = omega (arith, turn.number, length_push c.loop-i.yielded p) in
-    record {
-      placed = c.loop-k.invariant.placed ∙ ap (λ z. 32 + 4 * length (changed a b z)) on;
-      written = c.loop-k.invariant.written ∙ ap (listed c.args.out.now a b) on;
-    }
-
 pub put-requires : goal.put-requires
 put-requires c =
     let l = c.args.self in
