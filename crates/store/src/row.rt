@@ -3,13 +3,13 @@ ghost use Rattle.std.specs.Prelude.{◌≤◌};
 
 mod methods;
 
-// A record in memory. A row is copied and a store takes no other memory, so the name stands at the front of octets of its own, with its length beside them.
+// A record in memory. A row is copied and a store takes no other memory, so the name stands at the front of octets of its own, with its length beside them; the wider numbers stand first, so that a row takes 140 octets.
 #[derive(Clone, Copy)]
 struct Stored {
     name: [u8; 128],
-    len: u8,
     size: u32,
     cost: u16,
+    len: u8,
     ghost short: { len ≤ 128 },
 }
 
@@ -18,3 +18,5 @@ struct Stored {
 pub struct Row {
     stored: Option<Stored>,
 }
+
+const _: () = prove!(size_of::<Row>() == 140);

@@ -63,7 +63,7 @@ impl Row {
         ensures is { result ≡ size_in (content self.now) }
         ensures held { (c : Content) → content self.now ≡ Just c → result ≡ c.size }
     {
-        self.stored.map_or(0, |stored| stored.size)
+        self.stored.as_ref().map_or(0, |stored| stored.size)
     }
 
     // The cost of the record, and 0 in a free row.
@@ -71,7 +71,7 @@ impl Row {
         ensures is { result ≡ cost_in (content self.now) }
         ensures held { (c : Content) → content self.now ≡ Just c → result ≡ c.cost }
     {
-        self.stored.map_or(0, |stored| stored.cost)
+        self.stored.as_ref().map_or(0, |stored| stored.cost)
     }
 
     // Whether the row has a record of this name.
