@@ -1,5 +1,5 @@
 -- What the writers put together is the message of their content.
-use Rattle.std.proofs.Common.{◌≡◌, ℕ, ◌+◌, ◌-◌, ◌*◌, ◌≤◌, List, [], ◌∷◌, ◌++◌, length, take, drop, refl, ap, ◌∙◌, append_assoc, arith, length-append}
+use Rattle.std.proofs.Common.{◌≡◌, ℕ, ◌+◌, ◌-◌, ◌*◌, ◌≤◌, List, [], ◌∷◌, ◌++◌, length, take, drop, sym, refl, ap, ◌∙◌, append_assoc, arith, length-append}
 use Rattle.std.specs.List.{flat_map}
 use Rattle.std.proofs.lemmas.List.{append-nil, take_at}
 use Rattle.icp.specs.declared.contents.AnswerKind.{AnswerKind}
@@ -9,8 +9,8 @@ use Rattle.icp.specs.declared.contents.ReplyKind.TheVariants.{Hit, Miss}
 use Rattle.icp.specs.Numbers.{octets4}
 use Rattle.icp.specs.Contents.{changes, whole, query, header, filter_fields, entry_octets, text}
 use Rattle.icp.specs.Types.{answer_as, answer_opcode, reply_as, reply_opcode}
-use Rattle.icp.specs.Writing.{Written, begins, changed, listed}
-use Rattle.icp.proofs.Puts.{begins_again, message_is}
+use Rattle.icp.specs.Writing.{Written, begins, put_at, changed, listed}
+use Rattle.icp.proofs.Puts.{put_first, begins_again, message_is}
 use Rattle.icp.proofs.Changes.{length_joined}
 
 -- a text is one octet longer than its name
@@ -18,10 +18,13 @@ length_text : (name : List ℕ) → length (text name) ≡ length name + 1
 length_text name = length-append name (0 ∷ [])
 
 module _ (m n s r op : ℕ) (head xs out : List ℕ) where
+  alone : out ≡ put_at xs 0 head → out ≡ begins (head ++ []) xs
+  alone put = put_first head xs out put ∙ ap (λ z. begins z xs) (sym (append-nil head))
+
   -- an answer is a header alone
-  pub answer_written : (k : AnswerKind) (o : ℕ) → op ≡ answer_opcode k → head ≡ header op 20 r o s → out ≡ begins (head ++ []) xs → Written m (answer_as k s r o) xs out 20
-  answer_written Acknowledgement o e is put = message_is m (answer_as Acknowledgement s r o) head [] xs out 20 (is ∙ ap (λ x. header x 20 r o s) e) refl refl put
-  answer_written CallForWhole o e is put = message_is m (answer_as CallForWhole s r o) head [] xs out 20 (is ∙ ap (λ x. header x 20 r o s) e) refl refl put
+  pub answer_written : (k : AnswerKind) (o : ℕ) → op ≡ answer_opcode k → head ≡ header op 20 r o s → out ≡ put_at xs 0 head → Written m (answer_as k s r o) xs out 20
+  answer_written Acknowledgement o e is put = message_is m (answer_as Acknowledgement s r o) head [] xs out 20 (is ∙ ap (λ x. header x 20 r o s) e) refl refl (alone put)
+  answer_written CallForWhole o e is put = message_is m (answer_as CallForWhole s r o) head [] xs out 20 (is ∙ ap (λ x. header x 20 r o s) e) refl refl (alone put)
 
   -- a query is a header, the sender once more and a text
   pub query_written : (name sender : List ℕ) → sender ≡ octets4 s → n ≡ 20 + length sender + length name + 1

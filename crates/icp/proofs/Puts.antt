@@ -1,7 +1,7 @@
 -- Octets put into an output, one part after another.
-use Rattle.std.proofs.Common.{◌≡◌, ℕ, ◌+◌, ◌-◌, ◌≤◌, List, ◌++◌, length, drop, sym, refl, ap, ◌∙◌, append_assoc, arith, length-append}
+use Rattle.std.proofs.Common.{◌≡◌, ℕ, ◌+◌, ◌-◌, ◌≤◌, List, [], ◌∷◌, ◌++◌, length, drop, sym, refl, ap, ◌∙◌, append_assoc, zero-add, arith, length-append}
 use Rattle.std.proofs.lemmas.List.{take_at, drop_at, drop-drop}
-use Rattle.icp.specs.Contents.{Content, opcode_of, request_of, data_of, sender_of, body_of, header, written}
+use Rattle.icp.specs.Contents.{Content, opcode_of, request_of, data_of, sender_of, body_of, header, text, written}
 use Rattle.icp.specs.Writing.{Written, begins, put_at}
 
 drop_past : (p q : List ℕ) (n : ℕ) → drop (length p + n) (p ++ q) ≡ drop n q
@@ -19,6 +19,24 @@ put_next p ys xs =
 -- the same, at a place and an output that are known to be so
 pub put_on : (p ys xs now : List ℕ) (at : ℕ) → now ≡ begins p xs → at ≡ length p → put_at now at ys ≡ begins (p ++ ys) xs
 put_on p ys xs now at is where-is = (λ j. put_at (is j) (where-is j) ys) ∙ put_next p ys xs
+
+-- the first part
+pub put_first : (h xs out : List ℕ) → out ≡ put_at xs 0 h → out ≡ begins h xs
+put_first h xs out e = e ∙ ap (λ n. h ++ drop n xs) (zero-add (length h))
+
+-- a header, other octets, a name and a zero octet, put one after another
+pub named_put : (h b name xs one two three out : List ℕ) → 20 ≡ length h
+    → one ≡ put_at xs 0 h → two ≡ put_at one 20 b → three ≡ put_at two (20 + length b) name → out ≡ put_at three (20 + length b + length name) (0 ∷ [])
+    → out ≡ begins (h ++ (b ++ text name)) xs
+named_put h b name xs one two three out twenty put_1 put_2 put_3 put_4 =
+    let p = h ++ b in
+    let at : 20 + length b ≡ length p = let l = length-append h b in omega arith in
+    let end : 20 + length b + length name ≡ length (p ++ name) = let l = length-append p name in omega arith in
+    let between : two ≡ begins p xs = put_2 ∙ put_on h b xs one 20 (put_first h xs one put_1) twenty in
+    let named : three ≡ begins (p ++ name) xs = put_3 ∙ put_on p name xs two (20 + length b) between at in
+    put_4
+    ∙ put_on (p ++ name) (0 ∷ []) xs three (20 + length b + length name) named end
+    ∙ ap (λ z. begins z xs) (append_assoc p name (0 ∷ []) ∙ append_assoc h b (text name))
 
 -- a header and a body are the message of their content
 pub message_is : (m : ℕ) (c : Content) (h b xs out : List ℕ) (n : ℕ)

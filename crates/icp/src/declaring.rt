@@ -62,19 +62,21 @@ impl<'s> ChangeList<'s> {
         requires { 32 + 4 * self.count ≤ length out.old }
         ensures { out.new ≡ listed out.old self.entry.before.now.octets.items self.entry.after.now.octets.items self.entry.after.now.size.positions }
     {
-        let pairs = self.before.octets().iter().zip(self.after.octets());
+        let after = self.after.octets();
+        // All octets, since the summaries are of one size: cut to the other's length, so that the loop has one end to test.
+        let before = &self.before.octets()[..after.len()];
+        let pairs = before.iter().zip(after);
         // The place is counted, since only positions that differ are written.
         let mut at = 32;
         for (i, (before, after)) in pairs.enumerate() {
-            if before == after {
-                continue;
-            }
-            for k in 0..8 {
-                let value = has_value(*after, k);
-                if has_value(*before, k) != value {
-                    let position = 8 * i as u32 + k;
-                    put(out, at, &Change { position, value }.octets());
-                    at += 4;
+            if before != after {
+                for k in 0..8 {
+                    let value = has_value(*after, k);
+                    if has_value(*before, k) != value {
+                        let position = 8 * i as u32 + k;
+                        put(out, at, &Change { position, value }.octets());
+                        at += 4;
+                    }
                 }
             }
         }

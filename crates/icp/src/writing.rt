@@ -95,12 +95,13 @@ impl Answer {
             option: self.owner,
             sender: self.sender,
         };
-        put_parts(out, &[&header.octets(20)]);
+        put(out, 0, &header.octets(20));
         Ok(20)
     }
 }
 
 // Writes a message that ends in a name and a zero octet, with these octets between header and name, and answers its length.
+#[inline]
 fn write_named(
     out: &mut [u8],
     head: Header,
@@ -118,7 +119,10 @@ fn write_named(
     if out.len() < length {
         return Err(MessageFault::Output { house });
     }
-    put_parts(out, &[&head.octets(length as u16), between, name, &[0]]);
+    put(out, 0, &head.octets(length as u16));
+    put(out, 20, between);
+    put(out, 20 + between.len(), name);
+    put(out, 20 + between.len() + name.len(), &[0]);
     Ok(length)
 }
 

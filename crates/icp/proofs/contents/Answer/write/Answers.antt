@@ -8,5 +8,5 @@ returns c =
     let a = c.args.self.now in
     let xs = c.args.out.now in (
       search rules,
-      (λ m. answer_written m 20 a.sender a.held (opcode_number c.opcode.result) c.octets.result xs c.put_parts.new.out a.kind a.owner c.opcode.ensures c.octets.ensures c.put_parts.ensures),
+      (λ m. answer_written m 20 a.sender a.held (opcode_number c.opcode.result) c.octets.result xs c.put.new.out a.kind a.owner c.opcode.ensures c.octets.ensures c.put.ensures),
     )

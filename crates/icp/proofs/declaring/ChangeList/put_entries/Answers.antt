@@ -1,9 +1,17 @@
-use Rattle.std.proofs.Common.{◌≡◌, ℕ, ◌+◌, ◌*◌, ◌≤◌, true, [], ◌∷◌, ◌++◌, length, take, vec_items, sym, ap, ◌∙◌, subst, refl, Bor, arith}
+use Rattle.std.proofs.Common.{◌≡◌, ℕ, ◌+◌, ◌*◌, ◌≤◌, true, Option, Some, Iter, List, [], ◌∷◌, ◌++◌, length, take, vec_items, sym, ap, ◌∙◌, subst, refl, Bor, arith}
 use Rattle.std.specs.List.{flat_map}
-use Rattle.std.proofs.lemmas.List.{length_push}
+use Rattle.std.proofs.lemmas.List.{length_push, take_all}
+use Rattle.std.proofs.iter.Yields.{fronts}
+use Rattle.std.proofs.lemmas.Iterator.{zips}
+use Rattle.std.specs.Iterator.{Yields}
+use Rattle.std.specs.Iterator.Adapters.{zip_first, zip_second, enumerate_source, enumerate_count, enumerate_steps}
+use Rattle.std.specs.Slice.Iter.{iter_rest}
+use Rattle.std.specs.declared.iter.Enumerate.{Enumerate}
+use Rattle.std.specs.declared.iter.Zip.{Zip}
 use Rattle.filter.specs.declared.summary.Summary.{Summary}
 use Rattle.filter.specs.Summaries.{has_value, differs}
 use Rattle.filter.proofs.Octets.{bit_at}
+use Rattle.icp.specs.declared.declaring.ChangeList.{ChangeList}
 use Rattle.icp.specs.Contents.{entry_octets}
 use Rattle.icp.specs.Writing.{begins, changed, listed}
 use Rattle.icp.proofs.Changes.{longer, length_changed, changed_grows, changed_octet, listed_none, tested, step_more, step_same}
@@ -19,18 +27,56 @@ loop-i-init c =
 sized : (s t : Summary) → s.size.positions ≡ t.size.positions → length (vec_items s.octets) ≡ length (vec_items t.octets)
 sized s t e = let u = s.octets.ok.0 in let v = t.octets.ok.0 in omega (arith, s.long, t.long)
 
-pub loop-i-preserved-then-before-after : goal.loop-i-preserved-then-before-after
-loop-i-preserved-then-before-after c =
+-- the loop's next pair, where as many octets of the first summary are taken as the second has
+turn_of : (l : ChangeList) (xs : List (ℕ × (Bor ℕ × Bor ℕ))) (s t u : Enumerate (Zip (Iter ℕ) (Iter ℕ))) (r : Option (ℕ × (Bor ℕ × Bor ℕ))) (p : ℕ × (Bor ℕ × Bor ℕ))
+    → iter_rest (zip_first (enumerate_source s)) ≡ take (length (vec_items l.after.now.octets)) (vec_items l.before.now.octets)
+    → iter_rest (zip_second (enumerate_source s)) ≡ vec_items l.after.now.octets → enumerate_count s ≡ 0
+    → Yields (enumerate_steps (zips fronts fronts)) s xs t → r ≡ Some p → enumerate_steps (zips fronts fronts) t r u
+    → Turn (vec_items l.before.now.octets) (vec_items l.after.now.octets) (length xs) p.0 p.1.0.now p.1.1.now
+turn_of l xs s t u r p first second none yielded is step =
+    let a = vec_items l.before.now.octets in
+    let b = vec_items l.after.now.octets in
+    let long = sized l.before.now l.after.now l.one_size in
+    numbered_turn a b xs s t u r p long (first ∙ take_all (length b) a (omega (arith, long))) second none yielded is step
+
+pub loop-k-init : goal.loop-k-init
+loop-k-init c =
+    let l = c.args.self in
+    let a = vec_items l.before.now.octets in
+    let b = vec_items l.after.now.octets in
+    let p : ℕ × (Bor ℕ × Bor ℕ) = (c.in-Some.i, (c.in-Some.before, c.in-Some.after)) in
+    let turn =
+    turn_of l c.loop-i.yielded c.into_iter-i-iterator.result c.loop-i.i-iterator c.next.new.self c.next.result p (cc) (cc) (cc) c.loop-i.yielded_by c.in-Some.is c.next.ensures.steps in
+    let on : 8 * length c.loop-i.yielded ≡ 8 * c.in-Some.i + 0 = omega (arith, turn.number) in
+    record {
+      placed = c.loop-i.invariant.placed ∙ ap (λ z. 32 + 4 * length (changed a b z)) on;
+      written = c.loop-i.invariant.written ∙ ap (listed c.args.out.now a b) on;
+      turn = subst (λ z. Turn a b z c.in-Some.i c.in-Some.before.now c.in-Some.after.now) (sym turn.number) turn;
+    }
+
+pub loop-i-preserved-in-loop-k : goal.loop-i-preserved-in-loop-k
+loop-i-preserved-in-loop-k c =
+    let l = c.args.self in
+    let a = vec_items l.before.now.octets in
+    let b = vec_items l.after.now.octets in
+    let p : ℕ × (Bor ℕ × Bor ℕ) = (c.in-Some.i, (c.in-Some.before, c.in-Some.after)) in
+    let turn =
+    turn_of l c.loop-i.yielded c.into_iter-i-iterator.result c.loop-i.i-iterator c.next.new.self c.next.result p (cc) (cc) (cc) c.loop-i.yielded_by c.in-Some.is c.next.ensures.steps in
+    let on : 8 * c.in-Some.i + c.loop-k.k ≡ 8 * length (c.loop-i.yielded ++ p ∷ []) = omega (arith, turn.number, length_push c.loop-i.yielded p) in
+    record { placed = c.loop-k.invariant.placed ∙ ap (λ z. 32 + 4 * length (changed a b z)) on; written = c.loop-k.invariant.written ∙ ap (listed c.args.out.now a b) on }
+
+pub loop-i-preserved : goal.loop-i-preserved
+loop-i-preserved c =
     let l = c.args.self in
     let a = vec_items l.before.now.octets in
     let b = vec_items l.after.now.octets in
     let n = length c.loop-i.yielded in
     let p : ℕ × (Bor ℕ × Bor ℕ) = (c.in-Some.i, (c.in-Some.before, c.in-Some.after)) in
     let turn : Turn a b n c.in-Some.i c.in-Some.before.now c.in-Some.after.now =
-    numbered_turn a b c.loop-i.yielded c.into_iter-i-iterator.result c.loop-i.i-iterator c.next.new.self c.next.result p (sized l.before.now l.after.now l.one_size) (cc) (cc) (cc) c.loop-i.yielded_by c.in-Some.is c.next.ensures.steps in
+    turn_of l c.loop-i.yielded c.into_iter-i-iterator.result c.loop-i.i-iterator c.next.new.self c.next.result p (cc) (cc) (cc) c.loop-i.yielded_by c.in-Some.is c.next.ensures.steps in
     let xs = c.args.out.now in
     let on : 8 * length (c.loop-i.yielded ++ p ∷ []) ≡ 8 * n + 8 = omega (arith, length_push c.loop-i.yielded p) in
-    let same = ap (changed a b) on ∙ changed_octet a b n (sym turn.first ∙ c.if-before-after.true ∙ turn.second) in
+    let same = ap (changed a b) on ∙ changed_octet a b n (sym turn.first ∙ c.if-before-after.false ∙ turn.second) in
     record {
       placed = c.loop-i.invariant.placed ∙ sym (ap (λ es. 32 + 4 * length es) same);
       written = c.loop-i.invariant.written ∙ sym (ap (λ es. begins (take 32 xs ++ flat_map entry_octets es) xs) same);
