@@ -49,7 +49,8 @@ fn wrong_sender(call: Call, opener: &Opener, message: &[u8]) -> bool
     }
 }
 
-// The header of a message that passes these checks. Call, opener and message are the arguments of the opening itself, and make no value of their own.
+// The header of a message that passes these checks. Call, opener and message are the arguments of the opening itself, and make no value of their own. Each opening has a copy in which the call is known: only that call's opcodes are left to compare.
+#[inline(always)]
 pub(crate) fn open_header(
     call: Call,
     opener: &Opener,

@@ -36,7 +36,8 @@ impl Iterator for Entries<'_> {
     }
 }
 
-// Whether the positions of a change list rise, all below m.
+// Whether the positions of a change list rise, all below m. It stays a function of its own: the time of its short loop does not depend on the code around it.
+#[inline(never)]
 fn rising(entries: Entries<'_>, m: u32) -> bool
     ensures { result ≡ rises m 0 (entries_left entries.entry) }
 {
@@ -166,7 +167,7 @@ impl Opener {
             kind: update.kind(),
             sender: header.sender,
             version: header.request,
-            rest: update.rest(),
+            rest: &message[32..],
         })
     }
 }
