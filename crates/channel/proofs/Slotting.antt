@@ -68,7 +68,7 @@ spaces r (slot ∷ slots) h =
     (λ i. h 0 slot (omega arith) (omega arith) i ∷ map space slots) ∙ ap (λ xs. r ∷ xs) (spaces r slots (λ k d a b. h (suc k) d (omega arith) (omega arith)))
 
 -- a slot of another size
-other_space : (m : ℕ) (slots : List Slot) (i : ℕ) → i < length slots → HoldsAt (λ x. space x ≡ room m → ⊥) slots i → Measured m slots → ⊥
+pub other_space : (m : ℕ) (slots : List Slot) (i : ℕ) → i < length slots → HoldsAt (λ x. space x ≡ room m → ⊥) slots i → Measured m slots → ⊥
 other_space m [] i h other e = absurd (omega arith)
 other_space m (slot ∷ slots) i h other e = other slot (measured_at m (slot ∷ slots) i slot e h)
 

@@ -24,7 +24,7 @@ module _ {X : Type 0} where
   back es ys k n e le = take-append-le k ys (post_of 0 n es) (omega arith)
 
   -- a part that came back without its last
-  shorter : (es ys : List X) (n : ℕ) → n ≤ length es → length ys ≡ length (take n es) → take (n - 1) (ys ++ post_of 0 n es) ≡ take (length (take n es) - 1) ys
+  pub shorter : (es ys : List X) (n : ℕ) → n ≤ length es → length ys ≡ length (take n es) → take (n - 1) (ys ++ post_of 0 n es) ≡ take (length (take n es) - 1) ys
   shorter es ys n le e =
       let long : length (take n es) ≡ n = length-take-le n es (omega arith) in
       back es ys (n - 1) n (omega arith) (omega arith) ∙ ap (λ k. take (k - 1) ys) (sym long)

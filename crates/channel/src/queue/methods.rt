@@ -55,5 +55,6 @@ impl Queue {
 fn are_measured(size: FilterSize, slots: &[Slot]) -> bool
     ensures { Decides result (Measured size.positions slots.now) }
 {
-    slots.len() == SLOTS && slots.iter().all(|slot| slot.space() == room(size))
+    let all_there = slots.len() == SLOTS;
+    all_there && slots.iter().all(|slot| slot.space() == room(size))
 }

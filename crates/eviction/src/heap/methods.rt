@@ -45,7 +45,8 @@ impl EvictionHeap {
     pub fn peek<R: Ord + Copy>(&self, entries: &[Entry<R>]) -> Option<Entry<R>>
         ensures { MatchOption result (live self.now entries.now ≡ []) (λ x. (live self.now entries.now ≡ x ∷ drop 1 (live self.now entries.now)) × Leads R.Ord.cmp x (live self.now entries.now)) }
     {
-        entries[..self.len(entries)].first().copied()
+        let least = entries[..self.len(entries)].first()?;
+        Some(*least)
     }
 
     // Takes out the entry that `peek` answers.
