@@ -36,7 +36,7 @@ impl Iterator for Entries<'_> {
     }
 }
 
-// Whether the positions of a change list rise, all below m. It stays a function of its own: the time of its short loop does not depend on the code around it.
+// Whether the positions of a change list rise, all below m. It stays a function of its own, so that its short loop has a place apart from its callers' code.
 #[inline(never)]
 fn rising(entries: Entries<'_>, m: u32) -> bool
     ensures { result ≡ rises m 0 (entries_left entries.entry) }
